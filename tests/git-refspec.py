@@ -1,11 +1,11 @@
 #!/usr/bin/env python3
-"""Tries `git refspec`: tests/git-refspec.py [--record] PROGRAM
+"""Tries `git refspec`: tests/git-refspec.py [--record | --stored] PROGRAM
 
 Replays the calls of samples/git-refspec.sample in repositories that are made here, each in a UTF-8 locale and in C. Compares
 what `git refspec plan` and `git refspec stale` say with what `git fetch --dry-run`, `git fetch` and `git fetch --prune` do.
 Runs the synopses and the examples of the manual page, looks at the line that a terminal gets after two seconds, and completes
 words in bash, zsh and fish, if they are there. With --record the answers are put into the sample, to be read before they are
-committed.
+committed; with --stored the sample is replayed, and no more.
 
 PROGRAM is the built program refspec. Left out where there is no Git.
 """
@@ -584,18 +584,19 @@ def complete_in_fish(line, folder, variables):
 
 
 def main():
-    words = [word for word in sys.argv[1:] if word != "--record"]
-    if len(words) != 1:
+    words = [word for word in sys.argv[1:] if word not in ("--record", "--stored")]
+    if len(words) != 1 or len(sys.argv) > 3:
         sys.exit(__doc__)
     if not shutil.which("git"):
         print("git-refspec: left out, as there is no git")
         return
-    program, record = os.path.abspath(words[0]), len(words) < len(sys.argv) - 1
+    program, record = os.path.abspath(words[0]), "--record" in sys.argv
     with tempfile.TemporaryDirectory() as folder:
         Sample.remote = os.path.join(folder, "remote")
         make_remote(Sample.remote, environment(program))
         calls = Sample(program).replay_all(record)
-        if record:
+        if len(sys.argv) > 2:
+            print(f"git-refspec: {calls} calls in {len(LOCALES)} locales {'recorded' if record else 'answered as stored'}")
             return
         check_many_remotes(program)
         check_many_values(program)

@@ -1,6 +1,6 @@
 #!/usr/bin/env python3
-"""Runs the program refspec where no stored run can: inputs, outputs and memory that fail, the line that sums a plan up on a
-terminal, the options of its manual page, and its time: tests/refspec.py PROGRAM
+"""Runs the program refspec where no stored run can: inputs and outputs that fail, the line that sums a plan up on a terminal,
+the options of its manual page, and its time: tests/refspec.py PROGRAM
 
 All else is in tests/samples/refspec.sample, which tests/replay-refspec.py replays.
 """
@@ -19,29 +19,7 @@ PAGE = os.path.join(os.path.dirname(os.path.abspath(__file__)), "..", "man", "re
 COMMANDS = ("check", "explain", "canon", "plan", "stale", "track", "prefixes")
 NOT_READ = b"refspec: the input could not be read to its end\n"
 NOT_WRITTEN = b"refspec: the output could not be written\n"
-NO_MEMORY = b"refspec: out of memory\n"
 ID = "1" * 40
-REFS = "".join(f"{ID}\t{name}\n" for name in ("refs/heads/a", "refs/tags/a", "refs/heads/a..b", "x")).encode()
-# Words and inputs of runs that ask for memory in each step of a command.
-GROWING = [
-    (["check", "-v", "--json", "b", "--specs", "-"], b"a\na:\na..b\na*b*\n"),
-    (["check"], b"a" * 300 + b"..*:b..*\n"),
-    (["check"], b"a" * 300 + b"*:b* c:d\n"),
-    (["check", "--config"], b"file:c\0remote.o.fetch\na..b\0file:c\0remote.o.push\nb\0"),
-    (["check", "--config", "--json"], b"file:c\0remote.o.fetch\0"),
-    (["check"], b"refs/heads/*:refs/x/*\nrefs/pull/*/head:refs/x/pr/*\nrefs/heads/a:refs/x/a\nmain:x\n^main\n^refs/y\n"),
-    (["check", "--json"], b"refs/heads/*:refs/x/*\nrefs/tags/*:refs/x/*\nmain:x\n^main\n"),
-    (["explain", "--json"], b"main:x\n\xff\n"),
-    (["canon", "--push"], b"main\n\n:\"\n"),
-    (["plan", "refs/heads/*:refs/x/*", "main"], REFS + b"bad\n"),
-    (["plan", "--json", "refs/heads/*:refs/x/*", "refs/tags/*:refs/x/*"], REFS + b"bad\n"),
-    (["plan", "--long", "refs/heads/*:refs/x/*", "main"], REFS),
-    (["prefixes", "refs/*:refs/*", "refs/heads/*:refs/x/*"], b""),
-    (["track", "--json", "--ref", "refs/x/a", "--ref", "y", "refs/heads/*:refs/x/*", f"a:{ID}"], b""),
-    (["prefixes", "main", "*:refs/x/*"], b""),
-    (["plan", "--help"], b""),
-    (["plan", "--no"], b""),
-]
 
 
 def expect(made, words, what, message=None, status=3):
@@ -72,29 +50,6 @@ def check_inputs(program):
         expect(made, words, "the input is a folder", NOT_READ)
         made = subprocess.run([program, *words], preexec_fn=lambda: os.close(0), capture_output=True, check=False)
         expect(made, words, "the input is closed", NOT_READ)
-
-
-def check_memory(program):
-    """Each growth refused in turn, alone and with all later ones: a run says just that, or answers as ever."""
-    with runs.library("refuse") as library:
-        for words, text in GROWING:
-            whole = answer_of(subprocess.run([program, *words], input=text, capture_output=True, check=False))
-            for later in (False, True):
-                refused, call, early = True, 1, 0
-                while refused:
-                    made, refused = runs.run_refusing(library, [program, *words], call, later, input=text,
-                                                      stderr=subprocess.PIPE)
-                    if refused and answer_of(made) == (b"", NO_MEMORY, 3):
-                        early += 1
-                    elif answer_of(made) != whole:
-                        sys.exit(f"tests/refspec.py: {words}: growth {call} is refused: {answer_of(made)}")
-                    call += 1
-                if early == 0:
-                    sys.exit(f"tests/refspec.py: {words}: no run ended early")
-
-
-def answer_of(made):
-    return made.stdout, made.stderr, made.returncode
 
 
 def told_on_terminal(words, text):
@@ -191,10 +146,10 @@ def main():
     if len(sys.argv) != 2:
         sys.exit(__doc__)
     program = os.path.abspath(sys.argv[1])
-    for check in (check_outputs, check_inputs, check_memory, check_summary, check_page, check_many):
+    for check in (check_outputs, check_inputs, check_summary, check_page, check_many):
         check(program)
     taken = check_time(program)
-    print(f"refspec: inputs, outputs and memory that fail; 200,000 refs in {taken[1]:.2f} s, sort in {taken[0]:.2f} s")
+    print(f"refspec: inputs and outputs that fail; 200,000 refs in {taken[1]:.2f} s, sort in {taken[0]:.2f} s")
 
 
 main()

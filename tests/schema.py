@@ -15,8 +15,42 @@ except ImportError:
     jsonschema = None
 
 HERE = os.path.dirname(os.path.abspath(__file__))
+SCHEMA = os.path.join(HERE, os.pardir, "docs", "refspec.schema.json")
 # The samples, each with what begins a call, and whether its bytes are escaped.
 SAMPLES = (("refspec.sample", b"= ", True), ("git-refspec.sample", b"$ ", False))
+
+
+class Objects:
+    """The objects that the schema allows. Those with members of the same kinds, and the same values where the schema lists
+    them, are alike, and only the first of them is held against it."""
+
+    def __init__(self):
+        with open(SCHEMA, encoding="utf-8") as file:
+            self.schema = json.load(file)
+        self.validator = jsonschema and jsonschema.Draft202012Validator(self.schema)
+        self.known = {}
+        self.enumerated = {path[-2] for part in self.schema["oneOf"] for path in listed(part) if len(path) > 1}
+
+    def kind_of(self, value, name=None):
+        if isinstance(value, dict):
+            return tuple(sorted((key, self.kind_of(member, key)) for key, member in value.items()))
+        if isinstance(value, list):
+            return list, frozenset(self.kind_of(member, name) for member in value)
+        is_shown = name in self.enumerated or not isinstance(value, str) and (isinstance(value, bool) or value is None or value < 1)
+        return repr(value) if is_shown else type(value).__name__
+
+    def allow(self, line):
+        """Whether a line is an object that is allowed. Without the package jsonschema each object is."""
+        try:
+            value = json.loads(line)
+        except ValueError:
+            return False
+        if not isinstance(value, dict):
+            return False
+        kind = self.kind_of(value)
+        if kind not in self.known:
+            self.known[kind] = self.validator is None or self.validator.is_valid(value)
+        return self.known[kind]
 
 
 def fail(what):
@@ -73,7 +107,7 @@ def main():
     if jsonschema is None:
         print("schema: left out, as there is no python3-jsonschema")
         return
-    with open(os.path.join(HERE, os.pardir, "docs", "refspec.schema.json"), encoding="utf-8") as file:
+    with open(SCHEMA, encoding="utf-8") as file:
         schema = json.load(file)
     jsonschema.Draft202012Validator.check_schema(schema)
     whole = jsonschema.Draft202012Validator(schema)
@@ -92,4 +126,5 @@ def main():
     print(f"schema: {count} lines are each one of {len(parts)} objects of the schema")
 
 
-main()
+if __name__ == "__main__":
+    main()

@@ -256,12 +256,12 @@ fn prefixes_line<'a>(alloc: Global) -> Result<clap::Command<'a>, AllocError> {
     .long("patterns"))
 }
 
-/// The call for the matches of a command, from which it borrows. It names its inputs. Fails if memory runs out.
+/// The call for the matches of a command, from which it borrows. It names its inputs, and is watched only once the caller says
+/// so, who knows the terminal. Fails if memory runs out.
 pub fn call_of<'a>(
     alloc: Global,
     name: &str,
     matches: &ArgMatches<'a>,
-    is_watched: bool,
 ) -> Result<Call<'a>, AllocError> {
     let refs = listed(alloc, matches, "ref")?;
     let mut specs = listed(alloc, matches, "spec")?;
@@ -278,14 +278,9 @@ pub fn call_of<'a>(
         (false, true, _) => (INPUT, or_else(file, "")),
         (false, false, _) => (or_else(file, INPUT), ""),
     };
-    let operation = if matches.get_flag("push") {
-        Operation::Push
-    } else {
-        Operation::Fetch
-    };
     Ok(Call {
         command,
-        operation,
+        operation: operation_of(matches),
         form: form_of(matches),
         ends: ends_of(matches),
         verbose: matches.get_flag("verbose"),
@@ -294,7 +289,7 @@ pub fn call_of<'a>(
         all: matches.get_flag("all"),
         warns: !matches.get_flag("no-warnings"),
         is_strict: matches.get_flag("strict"),
-        is_watched,
+        is_watched: false,
         reads_input: reads_refs || has_dash || file.is_some() || specs.is_empty(),
         specs,
         refs,
@@ -306,6 +301,15 @@ pub fn call_of<'a>(
         configured: or_else(matches.get_str("configured"), ""),
         local: or_else(matches.get_str("local"), ""),
     })
+}
+
+// The operation of specs without a setting.
+fn operation_of(matches: &ArgMatches<'_>) -> Operation {
+    if matches.get_flag("push") {
+        Operation::Push
+    } else {
+        Operation::Fetch
+    }
 }
 
 /// Whether the input of a command is refs of a remote.

@@ -1,8 +1,8 @@
 //! The program's side of `git refspec`: the files of its folder, and what it writes.
 
-use crate::AtExit;
 use crate::streams::{CLOSED_STATUS, Stream};
-use refspec_git::answer::{Answer, Machine, answer_call};
+use refspec_git::answer::{Answer, Machine};
+use refspec_git::call::answer_call;
 use refspec_io::fault::Fault;
 use refspec_io::input::read_input;
 use refspec_request::output::Output;
@@ -59,7 +59,7 @@ impl Machine for Folder<'_> {
 /// which Git commands must run first, and returns 0.
 pub fn run_git(rt: &HostRuntime, path: &str) -> u8 {
     let folder = Folder { rt, path };
-    match answer_call(rt.alloc(), &folder, &mut AtExit) {
+    match answer_call(rt.alloc(), &folder) {
         Ok(Answer::Asks(lines)) => ask(rt, path, lines.as_slice()),
         Ok(Answer::Reports(reported)) => report(rt, &reported),
         Err(fault) => fail(rt, fault),

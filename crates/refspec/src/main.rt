@@ -8,29 +8,17 @@ mod streams;
 use crate::arguments::{call_of, command_line, has_refs, names_no_file, names_two_inputs};
 use crate::git::run_git;
 use crate::streams::{CLOSED_STATUS, Stream};
-use gix_refspec_plan::Plan;
 use refspec_commands::run::run;
 use refspec_io::call::{Call, Command, Files};
 use refspec_io::fault::Fault;
 use refspec_io::input::read_input;
-use refspec_plans::plan::Discard;
 use std::fs::File;
 use std::io::{IsTerminal, Write};
 use std::process::ExitCode;
-use std::{env, io, mem};
+use std::{env, io};
 
 // The exit status of a usage error.
 const USAGE_STATUS: u8 = 2;
-
-// Leaks a plan, since the end of the process frees it at once.
-#[derive(Drop)]
-struct AtExit;
-
-impl Discard for AtExit {
-    fn discard(&mut self, plan: Plan<'_>) {
-        mem::forget(plan);
-    }
-}
 
 fn main(rt: HostRuntime) -> ExitCode {
     ExitCode::from(match arguments_of(&rt) {
@@ -74,9 +62,10 @@ fn run_arguments(rt: &HostRuntime, arguments: &[String]) -> u8 {
             USAGE_STATUS
         }
         Some((name, matches)) => {
-            let Ok(call) = call_of(rt.alloc(), name, matches, rt.stderr().is_terminal()) else {
+            let Ok(mut call) = call_of(rt.alloc(), name, matches) else {
                 return fail(rt, Fault::Memory);
             };
+            call.is_watched = rt.stderr().is_terminal();
             run_call(rt, &call)
         }
         None => USAGE_STATUS,
@@ -146,18 +135,10 @@ fn run_on_input<W: Write, E: Write>(
 ) -> Result<u8, Fault> {
     let alloc = rt.alloc();
     if call.input == "-" || !call.reads_input {
-        return run(
-            alloc,
-            call,
-            files,
-            &mut rt.stdin(),
-            output,
-            errors,
-            &mut AtExit,
-        );
+        return run(alloc, call, files, &mut rt.stdin(), output, errors);
     }
     match File::open(rt, call.input) {
-        Ok(mut file) => run(alloc, call, files, &mut file, output, errors, &mut AtExit),
+        Ok(mut file) => run(alloc, call, files, &mut file, output, errors),
         Err(_) => Err(Fault::Read),
     }
 }

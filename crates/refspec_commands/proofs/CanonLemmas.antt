@@ -1,24 +1,27 @@
 -- The canonical texts of checked texts, in order.
-use Rattle.std.proofs.Common.{◌≡◌, ◌⊎◌, ℕ, ◌+◌, ◌<◌, List, [], ◌∷◌, ◌++◌, map, Some, inl, inr, length, take, take_all}
-use Rattle.std.proofs.Common.{◌≤◌, get_or, refl, sym, ap, ◌∙◌, subst}
+use Rattle.std.proofs.Common.{◌≡◌, ◌⊎◌, ℕ, ◌+◌, ◌<◌, List, [], ◌∷◌, ◌++◌, map, Option, None, Some, inl, inr, length}
+use Rattle.std.proofs.Common.{take, take_all, ◌≤◌, get_or, refl, sym, ap, ◌∙◌, subst}
 use Rattle.std.specs.List.{AllZip}
 use Rattle.std.proofs.lemmas.List.{take_more}
 use Rattle.gix_refspec.specs.Specs.Meaning.{printed}
 use Rattle.gix_refspec.specs.Views.Spec.{reading_of}
 use Rattle.gix_refspec_text.specs.declared.parsing.Error.{Error}
 use Rattle.gix_refspec_text.specs.declared.spec.RefSpecRef.{RefSpecRef}
+use Rattle.refspec_json.specs.declared.specs.SpecKind.{SpecKind}
+use Rattle.refspec_json.specs.declared.specs.SpecKind.TheVariants as kind
 use Rattle.refspec_io.specs.declared.call.Form.{Form}
 use Rattle.refspec_io.specs.declared.checked.Checked.{Checked}
 use Rattle.refspec_io.specs.declared.checked.Checked.TheVariants as checked
 use Rattle.refspec_io.specs.declared.texts.Text.{Text}
 use Rattle.refspec_io.specs.declared.call.Form.TheVariants as form
 use Rattle.refspec_io.specs.Json.{AddsRefusal, AreInOrder}
-use Rattle.refspec_io.specs.Read.{IsChecked, IsRefusal}
+use Rattle.refspec_io.specs.Read.{IsChecked, IsRefusal, IsRefusalOf}
 use Rattle.refspec_io.specs.Shown.{AddsNames}
 use Rattle.refspec_io.specs.Texts.{given_of, said}
-use Rattle.refspec_io.proofs.JsonLemmas.{AddsObjects-one, AddsObjects-push, AddsObjects-refusal, AddsObjects-start}
+use Rattle.refspec_io.proofs.JsonLemmas.{AddsObjects-more, AddsObjects-one, AddsObjects-push}
+use Rattle.refspec_io.proofs.JsonLemmas.{AddsObjects-refusal, AddsObjects-start}
 use Rattle.refspec_io.proofs.ShownLemmas.{AddsNames-append, AddsNames-none}
-use Rattle.refspec_commands.specs.Canon.{AddsCanonical, AddsCanonicalName, AreCanonical, AreCanonicalOf}
+use Rattle.refspec_commands.specs.Canon.{AddsCanonical, AddsCanonicalName, AddsShown, AreCanonical, AreCanonicalOf}
 use Rattle.refspec_commands.specs.Canon.{IsCanonicalObject, IsCanonicalOrRefusal, ShowsCanonical}
 
 AreCanonicalOf-append : (xs ys : List Checked) (ns ms : List (List ℕ)) → AreCanonicalOf xs ns → AreCanonicalOf ys ms
@@ -60,12 +63,6 @@ AddsCanonical-next f g xs i y old mid new below same is a b =
     subst (λ (l : List Checked). AddsCanonical f l old new) (sym step)
     (AddsCanonical-push f (take i xs) y old mid new a b2)
 
--- all texts
-pub AddsCanonical-all : (f : Form) (xs : List Checked) (i : ℕ) (old new : List ℕ) → length xs ≤ i
-    → AddsCanonical f (take i xs) old new → AddsCanonical f xs old new
-AddsCanonical-all f xs i old new long so_far = subst (λ (l : List Checked). AddsCanonical f l old new)
-    (take_all i xs long) so_far
-
 -- a name that is shown
 pub AddsCanonicalName-shown : (f : Form) (t : Text) (name old new : List ℕ) → (f ≡ form.Lines) ⊎ (f ≡ form.Zeros)
     → AddsNames f [] (name ∷ []) old new → AddsCanonicalName f t name old new
@@ -102,6 +99,52 @@ pub AddsCanonical-bad : (f : Form) (c : Checked) (text : Text) (error : Error) (
     → c ≡ checked.Bad text error → AddsRefusal f text error old new → AddsCanonical f (c ∷ []) old new
 AddsCanonical-bad f c text error old new is reported = subst (λ (x : Checked). AddsCanonical f (x ∷ []) old new)
     (sym is) (bad_one f text error old new reported)
+
+-- ---- what a kind says
+
+-- at the start nothing was reported
+pub AddsShown-start : (k : Option SpecKind) (f : Form) (old : List ℕ) → AddsShown k f [] old old
+AddsShown-start None f old = AddsObjects-start f IsRefusalOf old
+AddsShown-start (Some kind.Canonical) f old = AddsCanonical-start f old
+AddsShown-start (Some kind.Meaning) f old = tt
+AddsShown-start (Some kind.Good) f old = tt
+
+-- one more text
+pub AddsShown-next : (k : Option SpecKind) (f g : Form) (xs : List Checked) (i : ℕ) (y : Checked) (old mid new : List ℕ)
+    → i < length xs → g ≡ f → y ≡ get_or xs i y → AddsShown k f (take i xs) old mid → AddsShown k g (y ∷ []) mid new
+    → AddsShown k f (take (i + 1) xs) old new
+AddsShown-next None f g xs i y old mid new below same is a b =
+    AddsObjects-more f g IsRefusalOf xs i y old mid new below same is a b
+AddsShown-next (Some kind.Canonical) f g xs i y old mid new below same is a b =
+    AddsCanonical-next f g xs i y old mid new below same is a b
+AddsShown-next (Some kind.Meaning) f g xs i y old mid new below same is a b = tt
+AddsShown-next (Some kind.Good) f g xs i y old mid new below same is a b = tt
+
+-- all texts
+pub AddsShown-all : (k : Option SpecKind) (f : Form) (xs : List Checked) (i : ℕ) (old new : List ℕ) → length xs ≤ i
+    → AddsShown k f (take i xs) old new → AddsShown k f xs old new
+AddsShown-all k f xs i old new long so_far =
+    subst (λ (l : List Checked). AddsShown k f l old new) (take_all i xs long) so_far
+
+-- a text was refused
+pub AddsShown-bad : (k : Option SpecKind) (f : Form) (c : Checked) (text : Text) (error : Error) (old new : List ℕ)
+    → c ≡ checked.Bad text error → AddsRefusal f text error old new → AddsShown k f (c ∷ []) old new
+AddsShown-bad None f c text error old new is reported =
+    AddsObjects-refusal f IsRefusalOf c text error old new
+    (λ line of. subst (λ (x : Checked). IsRefusalOf x line) (sym is) of) reported
+AddsShown-bad (Some kind.Canonical) f c text error old new is reported =
+    AddsCanonical-bad f c text error old new is reported
+AddsShown-bad (Some kind.Meaning) f c text error old new is reported = tt
+AddsShown-bad (Some kind.Good) f c text error old new is reported = tt
+
+-- the canonical text of a spec was reported
+pub AddsShown-canonical : (k : Option SpecKind) (f : Form) (c : Checked) (text : Text) (spec : RefSpecRef)
+    (old new : List ℕ) → k ≡ Some kind.Canonical → c ≡ checked.Good text spec
+    → ((name : List ℕ) × (printed (reading_of spec) ≡ Some name) × AddsCanonicalName f text name old new)
+    → AddsShown k f (c ∷ []) old new
+AddsShown-canonical k f c text spec old new of is reported =
+    subst (λ (x : Option SpecKind). AddsShown x f (c ∷ []) old new) (sym of)
+    (AddsCanonical-good f c text spec old new is reported)
 
 -- the canonical texts of the checked texts are those of the texts
 AreCanonical-of : (texts : List Text) (all : List Checked) (names : List (List ℕ)) → AllZip IsChecked texts all

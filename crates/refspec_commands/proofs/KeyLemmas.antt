@@ -1,13 +1,15 @@
--- The groups of texts by their keys, and the lines on each.
+-- The groups of texts by their keys, and the warnings on each.
 use Rattle.std.proofs.Common.{◌==◌, ◌≡◌, ◌≢◌, MatchBool, not, ℕ, zero, suc, Bool, true, false, cond, List, [], ◌∷◌}
 use Rattle.std.proofs.Common.{◌++◌, Option, Some, None, MatchOption, length, map, append-nil, append_assoc, refl, sym}
-use Rattle.std.proofs.Common.{ap, ◌∙◌, subst, arith, slice_get, option_to_list, unwrap_or, vec_len, Vec, Global}
+use Rattle.std.proofs.Common.{ap, ◌∙◌, subst, arith, slice_get, option_to_list, unwrap_or, vec_len, Vec, Global, Result}
+use Rattle.std.proofs.Common.{Ok, Err, IfOk}
 use Rattle.std.proofs.lemmas.Bool.{Decides.Decides-eqb, false≢true}
 use Rattle.std.proofs.lemmas.Cmp.{nat_list_cmp_total, on_total, tied_itself}
 use Rattle.std.proofs.lemmas.List.{map-append, nil_from_length}
 use Rattle.std.proofs.lemmas.Map.Entries.{btree_map_get_place}
 use Rattle.std.proofs.lemmas.Map.Text.{btree_map_updates_str}
 use Rattle.std.proofs.lemmas.Slice.Eq.{bytes_eq-Decides}
+use Rattle.std.specs.declared.alloc.AllocError.{AllocError}
 use Rattle.std.specs.Borrow.{Bor}
 use Rattle.std.specs.BTreeMap.{BTreeMap, IsOrdered, UpdatesBy, get_by}
 use Rattle.std.specs.Cmp.Lexicographic.{slice_cmp, texts_ties}
@@ -20,15 +22,14 @@ use Rattle.std.specs.Str.{bytes_eq}
 use Rattle.std.specs.declared.cmp.Ordering.TheVariants.{Less}
 use Rattle.refspec_io.specs.declared.call.Form.{Form}
 use Rattle.refspec_io.specs.declared.call.Form.TheVariants as form
-use Rattle.refspec_io.specs.Json.{AreInOrder}
+use Rattle.refspec_commands.specs.declared.warnings.Warning.{Warning}
 use Rattle.refspec_commands.specs.declared.warnings.beside.Beside.{Beside}
 use Rattle.refspec_commands.specs.declared.warnings.group.Group.{Group}
 use Rattle.refspec_commands.specs.Seen.{Seen, key_of, of_key}
-use Rattle.refspec_commands.specs.Warned.{AreLinesOf, AreWarnings, Asked, InJson, nothing_asked}
-use Rattle.refspec_commands.specs.Warnings.{SaysWarnings}
-use Rattle.refspec_commands.specs.WarnedViews.{AreGroups, IsGroup, asked_at, asked_of, asked_or_nothing}
+use Rattle.refspec_commands.specs.Warned.{AreInTurn, AreSaidOf, AreWarnings, Asked, Said, nothing_asked}
+use Rattle.refspec_commands.specs.Warnings.{AreInJson, WarnsIf}
+use Rattle.refspec_commands.specs.WarnedViews.{AreGroups, IsGroup, asked_at, asked_of, asked_or_nothing, said_of}
 use Rattle.refspec_commands.proofs.SeenLemmas.{of_key-more}
-use Rattle.refspec_commands.proofs.WarnedLemmas.{InJson-as, InJson-push}
 
 -- the group at a key
 abbrev pub group_at : BTreeMap (Bor (List ℕ)) Group → List ℕ → Option Group
@@ -94,20 +95,24 @@ taken_group seen old key empty group found are is none same =
     by None at same here = subst (IsGroup (of_key key seen)) (sym same) (subst (λ l. IsGroup l empty) (sym here) none)
     by (Some g) at same here = subst (IsGroup (of_key key seen)) (sym same) here.1
 
--- ---- the lines so far
+-- ---- the warnings so far
 
 abbrev pub key_in : Bor (List ℕ) × Group → List ℕ
 key_in e = e.0.now
 
--- what was written of groups before the rest
-pub record HaveWritten (f : Form) (asks : List ℕ → Asked) (seen : List Seen) (rest : List (Bor (List ℕ) × Group))
-    (old new : List ℕ) : Type 0 where
+-- the warnings on the texts of some keys
+abbrev pub AreSaidAt : (List ℕ → Asked) → List Seen → List (List ℕ) → List Said → Type 0
+AreSaidAt asks seen keys said = AreInTurn (λ key some. AreSaidOf (asks key) (of_key key seen) some) keys said
+
+-- what was found of groups before the rest
+pub record HaveSaid (f : Form) (asks : List ℕ → Asked) (seen : List Seen) (rest : List (Bor (List ℕ) × Group))
+    (found : List Said) : Type 0 where
   pub groups : BTreeMap (Bor (List ℕ)) Group
   pub done : List (Bor (List ℕ) × Group)
   pub are : AreGroups seen groups
   pub ordered : IsOrdered (λ x y. slice_cmp nat_cmp x.now y.now) groups
   pub entries : groups.entries ≡ done ++ rest
-  pub wrote : InJson f (AreInOrder (λ key some. AreLinesOf (asks key) (of_key key seen) some) (map key_in done)) old new
+  pub said : f ≡ form.Json → AreSaidAt asks seen (map key_in done) found
 
 at_length : {X : Type 0} (xs ys : List X) (x : X) → slice_get (xs ++ x ∷ ys) (length xs) ≡ Some x
 at_length [] ys x = refl
@@ -115,35 +120,48 @@ at_length (z ∷ xs) ys x = at_length xs ys x
 
 -- the next group is that of its key
 pub next_group : (f : Form) (asks : List ℕ → Asked) (seen : List Seen) (e : Bor (List ℕ) × Group)
-    (all rest : List (Bor (List ℕ) × Group)) (old new : List ℕ) → HaveWritten f asks seen all old new → all ≡ e ∷ rest
+    (all rest : List (Bor (List ℕ) × Group)) (found : List Said) → HaveSaid f asks seen all found → all ≡ e ∷ rest
     → IsGroup (of_key e.0.now seen) e.1
-next_group f asks seen e all rest old new have is =
+next_group f asks seen e all rest old have is =
     let entries : have.groups.entries ≡ have.done ++ e ∷ rest = have.entries ∙ ap (λ l. have.done ++ l) is in
     let place : slice_get have.groups.entries (length have.done) ≡ Some (e.0, e.1) =
     ap (λ l. slice_get l (length have.done)) entries ∙ at_length have.done rest e in
-    let found : group_at have.groups e.0.now ≡ Some e.1 =
+    let at : group_at have.groups e.0.now ≡ Some e.1 =
     btree_map_get_place (on_total (λ (k : Bor (List ℕ)). k.now) nat_list_cmp_total) have.groups (length have.done) e.0
     e.1
     have.ordered place in
-    (subst (IsGroupAt seen e.0.now) found (have.are e.0.now)).1
+    (subst (IsGroupAt seen e.0.now) at (have.are e.0.now)).1
 
--- the lines on one more group
-pub written_next : (f : Form) (asks : List ℕ → Asked) (seen : List Seen) (e : Bor (List ℕ) × Group)
-    (all rest : List (Bor (List ℕ) × Group)) (old mid new : List ℕ) → HaveWritten f asks seen all old mid
-    → all ≡ e ∷ rest → InJson f (AreLinesOf (asks e.0.now) (of_key e.0.now seen)) mid new
-    → HaveWritten f asks seen rest old new
-written_next f asks seen e all rest old mid new have is wrote = record {
+AreInTurn-push : (Says : List ℕ → List Said → Type 0) (keys : List (List ℕ)) (key : List ℕ) (said one : List Said)
+    → AreInTurn Says keys said → Says key one → AreInTurn Says (keys ++ key ∷ []) (said ++ one)
+AreInTurn-push Says [] key said one none is =
+    (one, [], is, refl, ap (λ l. l ++ one) none ∙ sym (append-nil one))
+AreInTurn-push Says (k ∷ keys) key said one (first, rest, here, more, all) is = (
+  first,
+  rest ++ one,
+  here,
+  AreInTurn-push Says keys key rest one more is,
+  ap (λ l. l ++ one) all ∙ append_assoc first rest one,
+)
+
+-- the warnings on one more group
+pub said_next : (f : Form) (asks : List ℕ → Asked) (seen : List Seen) (e : Bor (List ℕ) × Group)
+    (all rest : List (Bor (List ℕ) × Group)) (old more new : List Warning) → HaveSaid f asks seen all (map said_of old)
+    → all ≡ e ∷ rest → (f ≡ form.Json → AreSaidOf (asks e.0.now) (of_key e.0.now seen) (map said_of more))
+    → new ≡ old ++ more → HaveSaid f asks seen rest (map said_of new)
+said_next f asks seen e all rest old more new have is said grew = record {
   groups = have.groups;
   done = have.done ++ e ∷ [];
   are = have.are;
   ordered = have.ordered;
   entries = have.entries ∙ (ap (λ l. have.done ++ l) is ∙ sym (append_assoc have.done (e ∷ []) rest));
-  wrote = subst
-      (λ (l : List (List ℕ)). InJson f (AreInOrder (λ key some. AreLinesOf (asks key) (of_key key seen) some) l) old
-      new)
+  said = λ json.
+      let longer = ap (map said_of) grew ∙ map-append said_of old more in
+      subst (AreSaidAt asks seen (map key_in (have.done ++ e ∷ []))) (sym longer)
+      (subst (λ (l : List (List ℕ)). AreSaidAt asks seen l (map said_of old ++ map said_of more))
       (sym (map-append key_in have.done (e ∷ [])))
-      (InJson-push f (λ key some. AreLinesOf (asks key) (of_key key seen) some) (map key_in have.done) e.0.now old mid
-      new have.wrote wrote);
+      (AreInTurn-push (λ key some. AreSaidOf (asks key) (of_key key seen) some) (map key_in have.done) e.0.now
+      (map said_of old) (map said_of more) (have.said json) (said json)));
 }
 
 -- ---- all keys
@@ -196,15 +214,13 @@ among (e ∷ es) key some = by (is_eq (slice_cmp nat_cmp key e.0.now)) refl (amo
         (lookup (λ k. is_eq (slice_cmp nat_cmp key k.now)) es)) other ∙ none)) in
         (suc found.0, omega (arith, found.1), found.2)
 
--- the lines on all groups are all warnings
-pub written_all : (f : Form) (asks : List ℕ → Asked) (seen : List Seen) (rest : List (Bor (List ℕ) × Group))
-    (old new : List ℕ) → HaveWritten f asks seen rest old new → rest ≡ [] → InJson f (AreWarnings asks seen) old new
-written_all f asks seen rest old new have none =
+-- the warnings on all groups are all
+pub said_all : (f : Form) (asks : List ℕ → Asked) (seen : List Seen) (rest : List (Bor (List ℕ) × Group))
+    (found : List Said) → HaveSaid f asks seen rest found → rest ≡ [] → f ≡ form.Json → AreWarnings asks seen found
+said_all f asks seen rest found have none json =
     let all : have.done ≡ have.groups.entries =
     sym (have.entries ∙ (ap (λ l. have.done ++ l) none ∙ append-nil have.done)) in
-    let entries = have.groups.entries in
-    InJson-as f (AreInOrder (λ key some. AreLinesOf (asks key) (of_key key seen) some) (map key_in have.done))
-    (AreWarnings asks seen) old new (λ json lines are. (
+    let entries = have.groups.entries in (
       map key_in entries,
       record {
         sorted = sorted_texts entries have.ordered;
@@ -213,9 +229,8 @@ written_all f asks seen rest old new have none =
           (λ some. among entries key (λ missing. some (empty key missing))),
         );
       },
-      subst (λ (l : List (Bor (List ℕ) × Group)). AreInOrder (λ key some. AreLinesOf (asks key) (of_key key seen) some)
-          (map key_in l) lines) all are,
-    )) have.wrote
+      subst (λ (l : List (Bor (List ℕ) × Group)). AreSaidAt asks seen (map key_in l) found) all (have.said json),
+    )
   where
     absent : (key : List ℕ) → of_key key seen ≡ [] → group_at have.groups key ≡ None
     absent key none = by (group_at have.groups key) refl (have.are key)
@@ -226,17 +241,6 @@ written_all f asks seen rest old new have none =
 
     empty : (key : List ℕ) → group_at have.groups key ≡ None → of_key key seen ≡ []
     empty key missing = subst (IsGroupAt seen key) missing (have.are key)
-
--- whether something was written
-pub any_of : (w : Vec ℕ Global) (b : Bool) → b ≡ (vec_len w == 0) → MatchBool (not b) (w.items ≢ []) (w.items ≡ [])
-any_of w b is = subst (λ (c : Bool). MatchBool (not c) (w.items ≢ []) (w.items ≡ [])) (sym is)
-    (by (vec_len w == 0) refl)
-  where
-    by : (c : Bool) → (vec_len w == 0) ≡ c → MatchBool (not c) (w.items ≢ []) (w.items ≡ [])
-    by true empty = nil_from_length w.items
-        (let none = (Decides-eqb (vec_len w) 0).0 empty in omega (arith, none, w.ok.0, w.ok.1))
-    by false some = λ none. false≢true (sym some ∙ (Decides-eqb (vec_len w) 0).1
-        (let long = ap length none in omega (arith, long, w.ok.0, w.ok.1)))
 
 -- ---- what was asked
 
@@ -256,25 +260,50 @@ pub asked_nothing : (beside : BTreeMap (Bor (List ℕ)) Beside) (key : List ℕ)
 asked_nothing beside key none = subst (λ (es : List (Bor (List ℕ) × Beside)).
     asked_or_nothing (lookup (λ k. is_eq (slice_cmp nat_cmp key k.now)) es) ≡ nothing_asked) (sym none) refl
 
-in_order_as : {X : Type 0} (Says Tells : X → List ℕ → Type 0) (xs : List X) (lines : List ℕ)
-    → ((x : X) (line : List ℕ) → Says x line → Tells x line) → AreInOrder Says xs lines → AreInOrder Tells xs lines
-in_order_as Says Tells [] lines tells none = none
-in_order_as Says Tells (x ∷ xs) lines tells (one, rest, here, more, all) =
-    (one, rest, tells x one here, in_order_as Says Tells xs rest tells more, all)
+in_turn_as : (Says Tells : List ℕ → List Said → Type 0) (keys : List (List ℕ)) (said : List Said)
+    → ((key : List ℕ) (one : List Said) → Says key one → Tells key one) → AreInTurn Says keys said
+    → AreInTurn Tells keys said
+in_turn_as Says Tells [] said tells none = none
+in_turn_as Says Tells (key ∷ keys) said tells (one, rest, here, more, all) =
+    (one, rest, tells key one here, in_turn_as Says Tells keys rest tells more, all)
 
-pub AreWarnings-nothing : (beside : BTreeMap (Bor (List ℕ)) Beside) (seen : List Seen) (lines : List ℕ)
-    → beside.entries ≡ [] → AreWarnings (asked_at beside) seen lines → AreWarnings (λ key. nothing_asked) seen lines
-AreWarnings-nothing beside seen lines none (keys, are, said) = (
+-- where no remote is known, the warnings are those on texts of which nothing is asked
+pub AreWarnings-nothing : (beside : BTreeMap (Bor (List ℕ)) Beside) (seen : List Seen) (said : List Said)
+    → beside.entries ≡ [] → AreWarnings (asked_at beside) seen said → AreWarnings (λ key. nothing_asked) seen said
+AreWarnings-nothing beside seen said none (keys, are, all) = (
   keys,
   are,
-  in_order_as _ _ keys lines
-      (λ key some. subst (λ (a : Asked). AreLinesOf a (of_key key seen) some) (asked_nothing beside key none)) said,
+  in_turn_as _ _ keys said
+      (λ key some. subst (λ (a : Asked). AreSaidOf a (of_key key seen) some) (asked_nothing beside key none)) all,
 )
 
-pub SaysWarnings-of : (f : Form) (beside : BTreeMap (Bor (List ℕ)) Beside) (seen : List Seen) (old new : List ℕ)
-    → beside.entries ≡ [] → old ≡ [] → InJson f (AreWarnings (asked_at beside) seen) old new → SaysWarnings f seen new
-SaysWarnings-of form.Lines beside seen old new none empty wrote = tt
-SaysWarnings-of form.Zeros beside seen old new none empty wrote = tt
-SaysWarnings-of form.Json beside seen old new none empty (lines, are, write) =
-    subst (λ (l : List ℕ). AreWarnings (λ key. nothing_asked) seen l) (sym (write ∙ ap (λ l. l ++ lines) empty))
-    (AreWarnings-nothing beside seen lines none are)
+-- and the same if they are asked for
+pub WarnsIf-nothing : (warns : Bool) (f : Form) (beside : BTreeMap (Bor (List ℕ)) Beside) (seen : List Seen)
+    (said : List Said) → beside.entries ≡ [] → WarnsIf warns f (asked_at beside) seen said
+    → WarnsIf warns f (λ key. nothing_asked) seen said
+WarnsIf-nothing false f beside seen said none are = are
+WarnsIf-nothing true form.Lines beside seen said none are = tt
+WarnsIf-nothing true form.Zeros beside seen said none are = tt
+WarnsIf-nothing true form.Json beside seen said none are = AreWarnings-nothing beside seen said none are
+
+-- warnings that are asked for
+pub WarnsIf-said : (warns : Bool) (f : Form) (asks : List ℕ → Asked) (seen : List Seen)
+    (r : Result (Vec Warning Global) AllocError) → warns ≡ true
+    → (f ≡ form.Json → IfOk r (λ found. AreWarnings asks seen (map said_of found.items)))
+    → IfOk r (λ found. WarnsIf warns f asks seen (map said_of found.items))
+WarnsIf-said warns f asks seen (Err e) is are = tt
+WarnsIf-said warns f asks seen (Ok found) is are =
+    subst (λ (b : Bool). WarnsIf b f asks seen said) (sym is) (by f are)
+  where
+    said : List Said
+    said = map said_of found.items
+
+    by : (g : Form) → (g ≡ form.Json → AreWarnings asks seen said) → AreInJson g asks seen said
+    by form.Lines are = tt
+    by form.Zeros are = tt
+    by form.Json are = are refl
+
+-- none, if they aren't
+pub WarnsIf-none : (warns : Bool) (f : Form) (asks : List ℕ → Asked) (seen : List Seen) (said : List Said)
+    → warns ≡ false → said ≡ [] → WarnsIf warns f asks seen said
+WarnsIf-none warns f asks seen said is none = subst (λ (b : Bool). WarnsIf b f asks seen said) (sym is) none

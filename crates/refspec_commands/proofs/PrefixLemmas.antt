@@ -1,6 +1,8 @@
 -- The ref prefixes to request from a server, in order.
-use Rattle.std.proofs.Common.{◌≡◌, ◌⊎◌, ℕ, ◌+◌, ◌<◌, Bool, true, false, MatchBool, codes, List, [], ◌∷◌, ◌++◌, ◌≢◌, ◌≤◌}
-use Rattle.std.proofs.Common.{flat_map, get_or, inl, inr, length, map, take, refl, sym, ap, ◌∙◌, subst, arith}
+use Rattle.std.proofs.Common.{◌≡◌, ◌⊎◌, ℕ, ◌+◌, ◌<◌, Bool, true, false, not, is_some, MatchBool, MatchOption, Option}
+use Rattle.std.proofs.Common.{None, Some, Vec, Global, codes, List, [], ◌∷◌, ◌++◌, ◌≢◌, ◌≤◌, flat_map, get_or, inl, inr}
+use Rattle.std.proofs.Common.{length, map, take, refl, sym, ap, ◌∙◌, subst, arith}
+use Rattle.std.proofs.lemmas.Bool.{false≢true}
 use Rattle.std.proofs.lemmas.Grind.{flat_map-append}
 use Rattle.std.proofs.lemmas.List.{append-nil, length-map, map-append, take_more}
 use Rattle.refspec_io.specs.declared.call.Form.{Form}
@@ -14,20 +16,22 @@ use Rattle.refspec_io.specs.Json.{AddsObjects}
 use Rattle.refspec_io.specs.Shown.{AddsNames}
 use Rattle.refspec_io.proofs.JsonLemmas.{AddsObjects-next}
 use Rattle.refspec_io.proofs.ShownLemmas.{AddsNames-append, AddsNames-none, behind}
-use Rattle.refspec_commands.specs.Prefixes.{AddsAll, AddsList, AddsNothing, AddsRequests, AreOthers, IsReason}
-use Rattle.refspec_commands.specs.Prefixes.{TakesWhole, argument, asked_object, asked_with, request}
+use Rattle.gix_refspec.specs.Matching.Asked.{HasNoList, ListsGroup}
+use Rattle.refspec_commands.specs.declared.prefixes.report.Notation.{Notation}
+use Rattle.refspec_commands.specs.Prefixes.{AddsAll, AddsList, AddsNothing, AddsRequests, AreOthers, AreReasons}
+use Rattle.refspec_commands.specs.Prefixes.{IsReasonObject, ListsAsked, TakesWhole, argument, asked_object, request}
 
 -- what stands for all refs, and one more reason
-pub AddsAll-next : (patterns : Bool) (f g : Form) (specs : List RefSpecRef) (i : ℕ) (s : RefSpecRef)
-    (old mid new : List ℕ) → i < length specs → s ≡ get_or specs i s → g ≡ f
-    → AddsAll patterns f (map reading_of (take i specs)) old mid → AddsObjects g IsReason (reading_of s ∷ []) mid new
-    → AddsAll patterns f (map reading_of (take (i + 1) specs)) old new
-AddsAll-next patterns form.Lines g specs i s old mid new below is same all reported =
-    subst (λ (x : Form). AddsObjects x IsReason (reading_of s ∷ []) mid new) same reported ∙ all
-AddsAll-next patterns form.Zeros g specs i s old mid new below is same all reported =
-    subst (λ (x : Form). AddsObjects x IsReason (reading_of s ∷ []) mid new) same reported ∙ all
-AddsAll-next patterns form.Json g specs i s old mid new below is same all reported =
-    AddsObjects-next form.Json g IsReason reading_of specs i s (reading_of s) old mid new below same
+pub AddsAll-next : (n : Notation) (f g : Form) (specs : List RefSpecRef) (i : ℕ) (s : RefSpecRef) (old mid new : List ℕ)
+    → i < length specs → s ≡ get_or specs i s → g ≡ f → AddsAll n f (map reading_of (take i specs)) old mid
+    → AddsObjects g IsReasonObject (reading_of s ∷ []) mid new → AddsAll n f (map reading_of (take (i + 1) specs)) old
+    new
+AddsAll-next n form.Lines g specs i s old mid new below is same all reported =
+    subst (λ (x : Form). AddsObjects x IsReasonObject (reading_of s ∷ []) mid new) same reported ∙ all
+AddsAll-next n form.Zeros g specs i s old mid new below is same all reported =
+    subst (λ (x : Form). AddsObjects x IsReasonObject (reading_of s ∷ []) mid new) same reported ∙ all
+AddsAll-next n form.Json g specs i s old mid new below is same all reported =
+    AddsObjects-next form.Json g IsReasonObject reading_of specs i s (reading_of s) old mid new below same
     (ap reading_of is) all reported
 
 -- ---- the specs for which `refs/` is requested, and the others
@@ -40,18 +44,22 @@ AreOthers-append (r ∷ g) h others more (inl (takes, those)) are =
 AreOthers-append (r ∷ g) h others more (inr (other, (rest, those, same))) are =
     inr (other, (rest ++ more, AreOthers-append g h rest more those are, ap (λ l. l ++ more) same))
 
+-- the readings of one more spec
+readings_next : (specs : List RefSpecRef) (i : ℕ) (s : RefSpecRef) → i < length specs → s ≡ get_or specs i s
+    → map reading_of (take (i + 1) specs) ≡ map reading_of (take i specs) ++ reading_of s ∷ []
+readings_next specs i s below is = ap (map reading_of) (take_more specs i s below)
+    ∙ (map-append reading_of (take i specs) (get_or specs i s ∷ [])
+    ∙ ap (λ (x : RefSpecRef). map reading_of (take i specs) ++ reading_of x ∷ []) (sym is))
+
 -- one more spec
 pub AreOthers-next : (specs : List RefSpecRef) (i : ℕ) (s : RefSpecRef) (old new : List RefSpecRef) → i < length specs
     → s ≡ get_or specs i s → AreOthers (map reading_of (take i specs)) (map reading_of old)
     → AreOthers (reading_of s ∷ []) (map reading_of new) → AreOthers (map reading_of (take (i + 1) specs))
     (map reading_of old ++ map reading_of new)
 AreOthers-next specs i s old new below is so_far one =
-    let step : map reading_of (take (i + 1) specs) ≡ map reading_of (take i specs) ++ reading_of s ∷ [] =
-    ap (map reading_of) (take_more specs i s below) ∙ (map-append reading_of (take i specs) (get_or specs i s ∷ [])
-    ∙ ap (λ (x : RefSpecRef). map reading_of (take i specs) ++ reading_of x ∷ []) (sym is)) in
-    subst (λ (l : List Reading). AreOthers l (map reading_of old ++ map reading_of new)) (sym step)
-    (AreOthers-append (map reading_of (take i specs)) (reading_of s ∷ []) (map reading_of old) (map reading_of new)
-    so_far one)
+    subst (λ (l : List Reading). AreOthers l (map reading_of old ++ map reading_of new))
+    (sym (readings_next specs i s below is)) (AreOthers-append (map reading_of (take i specs)) (reading_of s ∷ [])
+    (map reading_of old) (map reading_of new) so_far one)
 
 pub AreOthers-whole : (specs : List RefSpecRef) (i : ℕ) (s : RefSpecRef) (old : List RefSpecRef) → i < length specs
     → s ≡ get_or specs i s → TakesWhole (reading_of s) → AreOthers (map reading_of (take i specs)) (map reading_of old)
@@ -79,101 +87,141 @@ others_many (r ∷ g) others (inr (other, (more, those, same))) =
     let size = ap length same in
     (omega (arith, rest.0, size), λ long. same ∙ ap (λ l. r ∷ l) (rest.1 (omega (arith, long, size))))
 
-pub has_whole_if : (specs others lent shown : List RefSpecRef) (fewer : Bool) → AreOthers (map reading_of specs)
-    (map reading_of others) → lent ≡ others → shown ≡ specs → MatchBool fewer (length lent < length shown)
-    (length shown ≤ length lent) → MatchBool fewer (map reading_of others ≢ map reading_of specs)
-    (map reading_of others ≡ map reading_of specs)
-has_whole_if specs others lent shown true are same_lent same_shown less =
-    λ same. omega (
-      arith,
-      less,
-      ap length same_lent,
-      ap length same_shown,
-      ap length same,
-      length-map others reading_of,
-      length-map specs reading_of,
-    )
-has_whole_if specs others lent shown false are same_lent same_shown most =
+-- the list: `refs/` first if the other specs are fewer, then theirs
+pub ListsAsked-whole : (specs others : List RefSpecRef) (p : BString) (own before after : List BString)
+    → length others < length specs → bstring_bytes p ≡ codes "refs/" → before ≡ [] ++ p ∷ [] → after ≡ before ++ own
+    → ListsGroup (map reading_of others) (map bstring_bytes own)
+    → ListsAsked (map reading_of specs) (map reading_of others) (map bstring_bytes after)
+ListsAsked-whole specs others p own before after fewer whole first then_own lists = record {
+  has_whole = true;
+  own = map bstring_bytes own;
+  whole = λ same. omega (arith, fewer, ap length same, length-map others reading_of, length-map specs reading_of);
+  lists = lists;
+  is = ap (map bstring_bytes) (then_own ∙ ap (λ l. l ++ own) first) ∙ ap (λ l. l ∷ map bstring_bytes own) whole;
+}
+
+-- if the others are as many as all, the list is theirs
+pub ListsAsked-own : (specs others : List RefSpecRef) (own after : List BString) → length specs ≤ length others
+    → AreOthers (map reading_of specs) (map reading_of others) → after ≡ [] ++ own
+    → ListsGroup (map reading_of others) (map bstring_bytes own)
+    → ListsAsked (map reading_of specs) (map reading_of others) (map bstring_bytes after)
+ListsAsked-own specs others own after most are is lists =
     let many = others_many (map reading_of specs) (map reading_of others) are in
-    many.1 (omega (
-      arith,
-      most,
-      ap length same_lent,
-      ap length same_shown,
-      length-map others reading_of,
-      length-map specs reading_of,
-      many.0,
-    ))
+    record {
+      has_whole = false;
+      own = map bstring_bytes own;
+      whole = many.1 (omega (arith, most, length-map others reading_of, length-map specs reading_of, many.0));
+      lists = lists;
+      is = ap (map bstring_bytes) is;
+    }
+
+-- ---- the specs that are the reason why all refs are requested
+
+AreReasons-append : (g h reasons more : List Reading) → AreReasons g reasons → AreReasons h more
+    → AreReasons (g ++ h) (reasons ++ more)
+AreReasons-append [] h reasons more none are = subst (λ (l : List Reading). AreReasons h (l ++ more)) (sym none) are
+AreReasons-append (r ∷ g) h reasons more (inl (without, (rest, those, same))) are = inl (
+  without,
+  (rest ++ more, AreReasons-append g h rest more those are, ap (λ l. l ++ more) same),
+)
+AreReasons-append (r ∷ g) h reasons more (inr (listed, those)) are = inr (
+  listed,
+  AreReasons-append g h reasons more those are,
+)
+
+-- one more spec
+AreReasons-next : (specs : List RefSpecRef) (i : ℕ) (s : RefSpecRef) (old new : List Reading) → i < length specs
+    → s ≡ get_or specs i s → AreReasons (map reading_of (take i specs)) old → AreReasons (reading_of s ∷ []) new
+    → AreReasons (map reading_of (take (i + 1) specs)) (old ++ new)
+AreReasons-next specs i s old new below is so_far one =
+    subst (λ (l : List Reading). AreReasons l (old ++ new)) (sym (readings_next specs i s below is))
+    (AreReasons-append (map reading_of (take i specs)) (reading_of s ∷ []) old new so_far one)
+
+-- one more spec with a list, and one without
+pub AreReasons-listed : (specs : List RefSpecRef) (i : ℕ) (s : RefSpecRef) (old : List RefSpecRef) → i < length specs
+    → s ≡ get_or specs i s → (list : List (List ℕ)) × ListsGroup (reading_of s ∷ []) list
+    → AreReasons (map reading_of (take i specs)) (map reading_of old)
+    → AreReasons (map reading_of (take (i + 1) specs)) (map reading_of old)
+AreReasons-listed specs i s old below is listed so_far =
+    subst (AreReasons (map reading_of (take (i + 1) specs))) (append-nil (map reading_of old))
+    (AreReasons-next specs i s (map reading_of old) [] below is so_far (inr (listed, refl)))
+
+pub AreReasons-without : (specs : List RefSpecRef) (i : ℕ) (s : RefSpecRef) (old new : List RefSpecRef)
+    → i < length specs → s ≡ get_or specs i s → HasNoList (reading_of s ∷ []) → new ≡ old ++ s ∷ []
+    → AreReasons (map reading_of (take i specs)) (map reading_of old)
+    → AreReasons (map reading_of (take (i + 1) specs)) (map reading_of new)
+AreReasons-without specs i s old new below is without grown so_far =
+    subst (AreReasons (map reading_of (take (i + 1) specs)))
+    (sym (ap (map reading_of) grown ∙ map-append reading_of old (s ∷ [])))
+    (AreReasons-next specs i s (map reading_of old) (reading_of s ∷ []) below is so_far
+    (inl (without, ([], refl, refl))))
+
+-- whether a spec alone is a reason
+pub is_reason-of : (o : Option (Vec BString Global)) (b : Bool) (g h : List Reading) → is_some o ≡ not b → g ≡ h
+    → MatchOption o (HasNoList g) (λ list. ListsGroup g (map bstring_bytes list.items))
+    → MatchBool b (HasNoList h) ((list : List (List ℕ)) × ListsGroup h list)
+is_reason-of None true g h same is none = subst HasNoList is none
+is_reason-of None false g h same is none = absurd (false≢true same)
+is_reason-of (Some list) true g h same is lists = absurd (false≢true (sym same))
+is_reason-of (Some list) false g h same is lists = (
+  map bstring_bytes list.items,
+  subst (λ (l : List Reading). ListsGroup l (map bstring_bytes list.items)) is lists,
+)
 
 -- prefixes and then others
-AddsRequests-append : (patterns : Bool) (f : Form) (xs ys : List (List ℕ)) (old mid new : List ℕ)
-    → AddsRequests patterns f xs old mid → AddsRequests patterns f ys mid new
-    → AddsRequests patterns f (xs ++ ys) old new
-AddsRequests-append patterns form.Lines xs ys old mid new a b =
-    subst (λ (l : List (List ℕ)). AddsNames form.Lines (argument patterns) l old new)
-    (sym (map-append (request patterns) xs ys))
-    (AddsNames-append form.Lines (argument patterns) (map (request patterns) xs) (map (request patterns) ys) old mid new
-    a b)
-AddsRequests-append patterns form.Zeros xs ys old mid new a b =
-    subst (λ (l : List (List ℕ)). AddsNames form.Zeros (argument patterns) l old new)
-    (sym (map-append (request patterns) xs ys))
-    (AddsNames-append form.Zeros (argument patterns) (map (request patterns) xs) (map (request patterns) ys) old mid new
-    a b)
-AddsRequests-append patterns form.Json xs ys old mid new a b = behind old (flat_map asked_object xs) mid
+AddsRequests-append : (n : Notation) (f : Form) (xs ys : List (List ℕ)) (old mid new : List ℕ)
+    → AddsRequests n f xs old mid → AddsRequests n f ys mid new → AddsRequests n f (xs ++ ys) old new
+AddsRequests-append n form.Lines xs ys old mid new a b =
+    subst (λ (l : List (List ℕ)). AddsNames form.Lines (argument n) l old new) (sym (map-append (request n) xs ys))
+    (AddsNames-append form.Lines (argument n) (map (request n) xs) (map (request n) ys) old mid new a b)
+AddsRequests-append n form.Zeros xs ys old mid new a b =
+    subst (λ (l : List (List ℕ)). AddsNames form.Zeros (argument n) l old new) (sym (map-append (request n) xs ys))
+    (AddsNames-append form.Zeros (argument n) (map (request n) xs) (map (request n) ys) old mid new a b)
+AddsRequests-append n form.Json xs ys old mid new a b = behind old (flat_map asked_object xs) mid
     (flat_map asked_object ys) new a b ∙ ap (λ l. old ++ l) (sym (flat_map-append asked_object xs ys))
 
 -- at the start there is no prefix
-pub AddsRequests-start : (patterns : Bool) (f : Form) (old : List ℕ) → AddsRequests patterns f [] old old
-AddsRequests-start patterns form.Lines old = AddsNames-none form.Lines (argument patterns) old old refl
-AddsRequests-start patterns form.Zeros old = AddsNames-none form.Zeros (argument patterns) old old refl
-AddsRequests-start patterns form.Json old = sym (append-nil old)
+pub AddsRequests-start : (n : Notation) (f : Form) (old : List ℕ) → AddsRequests n f [] old old
+AddsRequests-start n form.Lines old = AddsNames-none form.Lines (argument n) old old refl
+AddsRequests-start n form.Zeros old = AddsNames-none form.Zeros (argument n) old old refl
+AddsRequests-start n form.Json old = sym (append-nil old)
 
 -- one more prefix
-pub AddsRequests-next : (patterns : Bool) (f g : Form) (xs : List BString) (i : ℕ) (d : BString)
-    (p old mid new : List ℕ) → i < length xs → g ≡ f → p ≡ bstring_bytes (get_or xs i d)
-    → AddsRequests patterns f (map bstring_bytes (take i xs)) old mid → AddsRequests patterns g (p ∷ []) mid new
-    → AddsRequests patterns f (map bstring_bytes (take (i + 1) xs)) old new
-AddsRequests-next patterns f g xs i d p old mid new below same is a b =
-    let b2 = subst (λ (x : Form). AddsRequests patterns x (p ∷ []) mid new) same b in
+pub AddsRequests-next : (n : Notation) (f g : Form) (xs : List BString) (i : ℕ) (d : BString) (p old mid new : List ℕ)
+    → i < length xs → g ≡ f → p ≡ bstring_bytes (get_or xs i d) → AddsRequests n f (map bstring_bytes (take i xs)) old
+    mid → AddsRequests n g (p ∷ []) mid new → AddsRequests n f (map bstring_bytes (take (i + 1) xs)) old new
+AddsRequests-next n f g xs i d p old mid new below same is a b =
+    let b2 = subst (λ (x : Form). AddsRequests n x (p ∷ []) mid new) same b in
     let step : map bstring_bytes (take (i + 1) xs) ≡ map bstring_bytes (take i xs) ++ p ∷ [] =
     ap (map bstring_bytes) (take_more xs i d below) ∙ (map-append bstring_bytes (take i xs) (get_or xs i d ∷ [])
     ∙ ap (λ z. map bstring_bytes (take i xs) ++ z ∷ []) (sym is)) in
-    subst (λ (l : List (List ℕ)). AddsRequests patterns f l old new) (sym step)
-    (AddsRequests-append patterns f (map bstring_bytes (take i xs)) (p ∷ []) old mid new a b2)
+    subst (λ (l : List (List ℕ)). AddsRequests n f l old new) (sym step)
+    (AddsRequests-append n f (map bstring_bytes (take i xs)) (p ∷ []) old mid new a b2)
 
 -- a prefix as a name that is shown
-pub AddsRequests-shown : (patterns : Bool) (f : Form) (p old new : List ℕ) → (f ≡ form.Lines) ⊎ (f ≡ form.Zeros)
-    → AddsNames f (argument patterns) (request patterns p ∷ []) old new → AddsRequests patterns f (p ∷ []) old new
-AddsRequests-shown patterns f p old new (inl is) reported =
-    subst (λ (x : Form). AddsRequests patterns x (p ∷ []) old new) (sym is)
-    (subst (λ (x : Form). AddsNames x (argument patterns) (request patterns p ∷ []) old new) is reported)
-AddsRequests-shown patterns f p old new (inr is) reported =
-    subst (λ (x : Form). AddsRequests patterns x (p ∷ []) old new) (sym is)
-    (subst (λ (x : Form). AddsNames x (argument patterns) (request patterns p ∷ []) old new) is reported)
+pub AddsRequests-shown : (n : Notation) (f : Form) (p old new : List ℕ) → (f ≡ form.Lines) ⊎ (f ≡ form.Zeros)
+    → AddsNames f (argument n) (request n p ∷ []) old new → AddsRequests n f (p ∷ []) old new
+AddsRequests-shown n f p old new (inl is) reported = subst (λ (x : Form). AddsRequests n x (p ∷ []) old new) (sym is)
+    (subst (λ (x : Form). AddsNames x (argument n) (request n p ∷ []) old new) is reported)
+AddsRequests-shown n f p old new (inr is) reported = subst (λ (x : Form). AddsRequests n x (p ∷ []) old new) (sym is)
+    (subst (λ (x : Form). AddsNames x (argument n) (request n p ∷ []) old new) is reported)
+
+-- the same for the bytes before it and the name that are written
+pub AddsRequests-named : (n : Notation) (f : Form) (p before name old new : List ℕ)
+    → (f ≡ form.Lines) ⊎ (f ≡ form.Zeros) → before ≡ argument n → name ≡ request n p
+    → AddsNames f before (name ∷ []) old new → AddsRequests n f (p ∷ []) old new
+AddsRequests-named n f p before name old new either is_before is_name reported =
+    AddsRequests-shown n f p old new either
+    (subst (λ (x : List ℕ). AddsNames f (argument n) (x ∷ []) old new) is_name
+    (subst (λ (x : List ℕ). AddsNames f x (name ∷ []) old new) is_before reported))
 
 -- a list that isn't empty
-pub AddsList-of : (patterns : Bool) (f : Form) (list : List (List ℕ)) (old new : List ℕ) → (list ≡ [] → ⊥)
-    → AddsRequests patterns f list old new → AddsList patterns f list old new
-AddsList-of patterns f [] old new some reported = absurd (some refl)
-AddsList-of patterns f (p ∷ list) old new some reported = reported
-
--- prefixes after `refs/`, and alone
-pub AddsList-whole : (patterns has : Bool) (f g : Form) (p : List ℕ) (list : List (List ℕ)) (old mid new : List ℕ)
-    → has ≡ true → p ≡ codes "refs/" → g ≡ f → AddsRequests patterns f (p ∷ []) old mid
-    → AddsRequests patterns g list mid new → AddsList patterns f (asked_with has list) old new
-AddsList-whole patterns has f g p list old mid new whole same form first more =
-    let rest = subst (λ (x : Form). AddsRequests patterns x list mid new) form more in
-    let one = subst (λ (q : List ℕ). AddsRequests patterns f (q ∷ []) old mid) same first in
-    subst (λ (b : Bool). AddsList patterns f (asked_with b list) old new) (sym whole)
-    (AddsRequests-append patterns f (codes "refs/" ∷ []) list old mid new one rest)
-
-pub AddsList-own : (patterns has : Bool) (f : Form) (list : List (List ℕ)) (old new : List ℕ) → has ≡ false
-    → AddsList patterns f list old new → AddsList patterns f (asked_with has list) old new
-AddsList-own patterns has f list old new none reported =
-    subst (λ (b : Bool). AddsList patterns f (asked_with b list) old new) (sym none) reported
+pub AddsList-of : (n : Notation) (f : Form) (list : List (List ℕ)) (old new : List ℕ) → (list ≡ [] → ⊥)
+    → AddsRequests n f list old new → AddsList n f list old new
+AddsList-of n f [] old new some reported = absurd (some refl)
+AddsList-of n f (p ∷ list) old new some reported = reported
 
 -- an empty list
-pub AddsList-none : (patterns : Bool) (f : Form) (list : List (List ℕ)) (old new : List ℕ) → list ≡ []
-    → AddsNothing f old new → AddsList patterns f list old new
-AddsList-none patterns f list old new none reported = subst (λ (l : List (List ℕ)). AddsList patterns f l old new)
-    (sym none) reported
+pub AddsList-none : (n : Notation) (f : Form) (list : List (List ℕ)) (old new : List ℕ) → list ≡ []
+    → AddsNothing f old new → AddsList n f list old new
+AddsList-none n f list old new none reported = subst (λ (l : List (List ℕ)). AddsList n f l old new) (sym none) reported

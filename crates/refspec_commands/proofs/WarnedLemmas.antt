@@ -29,6 +29,7 @@ use Rattle.refspec_json.specs.Objects.{line_of, warning_object}
 use Rattle.refspec_json.specs.Views.{warned_texts}
 use Rattle.refspec_io.specs.declared.call.Form.{Form}
 use Rattle.refspec_io.specs.declared.call.Form.TheVariants as form
+use Rattle.refspec_io.specs.declared.report.Report.{Report}
 use Rattle.refspec_io.specs.Json.{AreInOrder, json_text}
 use Rattle.refspec_io.specs.Messages.{IsSpot}
 use Rattle.refspec_io.proofs.JsonLemmas.{AreInOrder-append}
@@ -41,11 +42,11 @@ use Rattle.gix_refspec_lint.specs.Views.Lint.{unused_of}
 use Rattle.refspec_commands.specs.declared.warnings.Warning.{Warning}
 use Rattle.refspec_commands.specs.declared.warnings.group.Group.{Group}
 use Rattle.refspec_commands.specs.Seen.{Seen}
-use Rattle.refspec_commands.specs.Warned.{AreConflictsSaid, AreExclusionsSaid, AreIdleSaid, AreLinesOf, AreNestingsSaid}
-use Rattle.refspec_commands.specs.Warned.{AreSaidOn, AreSources, AreWithin, Asked, FoundOrNone, InJson, IsAmong}
+use Rattle.refspec_commands.specs.Warned.{AddsSaid, AreConflictsSaid, AreExclusionsSaid, AreIdleSaid, AreNestingsSaid}
+use Rattle.refspec_commands.specs.Warned.{AreSaidOf, AreSaidOn, AreSources, AreWithin, Asked, FoundOrNone, IsAmong}
 use Rattle.refspec_commands.specs.Warned.{IsExampleMessage, IsExclusionSaid, IsForFetch, IsIdleSaid, IsInside}
-use Rattle.refspec_commands.specs.Warned.{IsNestingMessage, IsOtherSaid, IsSaidLine, IsWarned, MayBeFull, MayExclude}
-use Rattle.refspec_commands.specs.Warned.{MayNameRefs, Said, excludable_by, fetched_by, other_of}
+use Rattle.refspec_commands.specs.Warned.{IsNestingMessage, IsOtherSaid, IsSaidLine, IsSaidText, IsWarned, MayBeFull}
+use Rattle.refspec_commands.specs.Warned.{MayExclude, MayNameRefs, Said, excludable_by, fetched_by, other_of}
 use Rattle.refspec_commands.specs.WarnedViews.{AreOthers, IsGroup, said_of, topic_name}
 use Rattle.refspec_commands.proofs.SeenLemmas.{good_group}
 use Rattle.refspec_io.specs.Texts.{Given, given_of}
@@ -307,52 +308,14 @@ behind_four a b c d e w x y z one two three four =
     four ∙ (ap (λ l. l ++ e) (three ∙ ap (λ l. l ++ d) (two ∙ ap (λ l. l ++ c) one)) ∙ (append_assoc ((a ++ b) ++ c) d e
     ∙ (append_assoc (a ++ b) c (d ++ e) ∙ append_assoc a b (c ++ (d ++ e)))))
 
--- ---- lines in order
-
--- the lines of one more element
-pub InJson-push : {X : Type 0} (f : Form) (Reports : X → List ℕ → Type 0) (xs : List X) (x : X) (old mid new : List ℕ)
-    → InJson f (AreInOrder Reports xs) old mid → InJson f (Reports x) mid new
-    → InJson f (AreInOrder Reports (xs ++ x ∷ [])) old new
-InJson-push form.Lines Reports xs x old mid new before here = tt
-InJson-push form.Zeros Reports xs x old mid new before here = tt
-InJson-push form.Json Reports xs x old mid new (lines, are, wrote) (one, is, write) = (
-  lines ++ one,
-  AreInOrder-append Reports xs (x ∷ []) lines one are (one, [], is, refl, sym (append-nil one)),
-  behind old lines mid one new wrote write,
-)
-
--- the same for an element at an index, which is mapped
-pub InJson-next : {X Y : Type 0} (f : Form) (Reports : Y → List ℕ → Type 0) (shown : X → Y) (xs : List X) (i : ℕ)
-    (x : X) (old mid new : List ℕ) → i < length xs → x ≡ get_or xs i x
-    → InJson f (AreInOrder Reports (map shown (take i xs))) old mid → InJson f (Reports (shown x)) mid new
-    → InJson f (AreInOrder Reports (map shown (take (i + 1) xs))) old new
-InJson-next {X} {Y} f Reports shown xs i x old mid new below is before here =
-    let step : map shown (take (i + 1) xs) ≡ map shown (take i xs) ++ shown x ∷ [] =
-    ap (map shown) (take_more xs i x below) ∙ (map-append shown (take i xs) (get_or xs i x ∷ [])
-    ∙ ap (λ z. map shown (take i xs) ++ shown z ∷ []) (sym is)) in
-    subst (λ (l : List Y). InJson f (AreInOrder Reports l) old new) (sym step)
-    (InJson-push f Reports (map shown (take i xs)) (shown x) old mid new before here)
-
--- the lines so far are all
-pub InJson-all : {X Y : Type 0} (f : Form) (Reports : Y → List ℕ → Type 0) (shown : X → Y) (xs : List X) (i : ℕ)
-    (old new : List ℕ) → length xs ≤ i → InJson f (AreInOrder Reports (map shown (take i xs))) old new
-    → InJson f (AreInOrder Reports (map shown xs)) old new
-InJson-all {X} f Reports shown xs i old new long so_far =
-    subst (λ (l : List X). InJson f (AreInOrder Reports (map shown l)) old new) (take_all i xs long) so_far
-
--- what the lines are, they are also said otherwise
-pub InJson-as : (f : Form) (Are Say : List ℕ → Type 0) (old new : List ℕ)
-    → (f ≡ form.Json → (lines : List ℕ) → Are lines → Say lines) → InJson f Are old new → InJson f Say old new
-InJson-as form.Lines Are Say old new says is = tt
-InJson-as form.Zeros Are Say old new says is = tt
-InJson-as form.Json Are Say old new says (lines, are, write) = (lines, says refl lines are, write)
+-- ---- the report
 
 -- the object of a warning
 pub IsSaidLine-of : (w : Warning) (name location message advice : List ℕ) (specs : List WarnedSpec)
     (old new : List ℕ) → name ≡ topic_name w.topic → IsSpot form.Json (said_of w).spot location
     → message ≡ json_text w.message.items → AllZip IsWarned (said_of w).texts (map warned_texts specs)
     → new ≡ old ++ line_of (warning_object name location (map warned_texts specs) message advice)
-    → InJson form.Json (IsSaidLine (said_of w)) old new
+    → (line : List ℕ) × IsSaidLine (said_of w) line × (new ≡ old ++ line)
 IsSaidLine-of w name location message advice specs old new is_name is_location is_message are wrote = (
   line_of (warning_object name location (map warned_texts specs) message advice),
   record {
@@ -366,6 +329,68 @@ IsSaidLine-of w name location message advice specs old new is_name is_location i
   },
   wrote,
 )
+
+-- at the start there is no warning
+pub AddsSaid-start : (f : Form) (p : Report) → AddsSaid f [] p p
+AddsSaid-start form.Lines p = (refl, ([], refl, sym (append-nil p.messages.items)))
+AddsSaid-start form.Zeros p = (refl, ([], refl, sym (append-nil p.messages.items)))
+AddsSaid-start form.Json p = (refl, ([], refl, sym (append-nil p.results.items)))
+
+-- the object of a warning was appended to the results, or its lines to the messages
+pub AddsSaid-object : (f : Form) (s : Said) (p q : Report) → f ≡ form.Json → q.messages.items ≡ p.messages.items
+    → (line : List ℕ) × IsSaidLine s line × (q.results.items ≡ p.results.items ++ line) → AddsSaid f (s ∷ []) p q
+AddsSaid-object f s p q is same (line, of, write) =
+    subst (λ (x : Form). AddsSaid x (s ∷ []) p q) (sym is)
+    (same, (line, (line, [], of, refl, sym (append-nil line)), write))
+
+pub AddsSaid-lines : (f : Form) (s : Said) (p q : Report) → (f ≡ form.Lines) ⊎ (f ≡ form.Zeros)
+    → q.results.items ≡ p.results.items
+    → (lines : List ℕ) × IsSaidText s lines × (q.messages.items ≡ p.messages.items ++ lines) → AddsSaid f (s ∷ []) p q
+AddsSaid-lines f s p q (inl is) same (lines, of, write) =
+    subst (λ (x : Form). AddsSaid x (s ∷ []) p q) (sym is)
+    (same, (lines, (lines, [], of, refl, sym (append-nil lines)), write))
+AddsSaid-lines f s p q (inr is) same (lines, of, write) =
+    subst (λ (x : Form). AddsSaid x (s ∷ []) p q) (sym is)
+    (same, (lines, (lines, [], of, refl, sym (append-nil lines)), write))
+
+AddsSaid-append : (f : Form) (xs ys : List Said) (p q r : Report) → AddsSaid f xs p q → AddsSaid f ys q r
+    → AddsSaid f (xs ++ ys) p r
+AddsSaid-append form.Lines xs ys p q r (same, (one, are, wrote)) (then_same, (other, also, write)) = (
+  then_same ∙ same,
+  (
+    one ++ other,
+    AreInOrder-append IsSaidText xs ys one other are also,
+    behind p.messages.items one q.messages.items other r.messages.items wrote write,
+  ),
+)
+AddsSaid-append form.Zeros xs ys p q r (same, (one, are, wrote)) (then_same, (other, also, write)) = (
+  then_same ∙ same,
+  (
+    one ++ other,
+    AreInOrder-append IsSaidText xs ys one other are also,
+    behind p.messages.items one q.messages.items other r.messages.items wrote write,
+  ),
+)
+AddsSaid-append form.Json xs ys p q r (same, (one, are, wrote)) (then_same, (other, also, write)) = (
+  then_same ∙ same,
+  (
+    one ++ other,
+    AreInOrder-append IsSaidLine xs ys one other are also,
+    behind p.results.items one q.results.items other r.results.items wrote write,
+  ),
+)
+
+-- one more warning
+pub AddsSaid-next : (f g : Form) (ws : List Warning) (i : ℕ) (w : Warning) (p q r : Report) → i < length ws → g ≡ f
+    → w ≡ get_or ws i w → AddsSaid f (map said_of (take i ws)) p q → AddsSaid g (said_of w ∷ []) q r
+    → AddsSaid f (map said_of (take (i + 1) ws)) p r
+AddsSaid-next f g ws i w p q r below same is before here =
+    let step : map said_of (take (i + 1) ws) ≡ map said_of (take i ws) ++ said_of w ∷ [] =
+    ap (map said_of) (take_more ws i w below) ∙ (map-append said_of (take i ws) (get_or ws i w ∷ [])
+    ∙ ap (λ z. map said_of (take i ws) ++ said_of z ∷ []) (sym is)) in
+    subst (λ (l : List Said). AddsSaid f l p r) (sym step)
+    (AddsSaid-append f (map said_of (take i ws)) (said_of w ∷ []) p q r before
+    (subst (λ (x : Form). AddsSaid x (said_of w ∷ []) q r) same here))
 
 -- ---- idle specs
 
@@ -530,28 +555,19 @@ said_fetch a g texts c d i e o all fetch conflicts directories idle exclusions o
   },
 )
 
--- no lines on a group with a refused text
-pub InJson-bad : (f : Form) (a : Asked) (seen : List Seen) (group : Group) (old : List ℕ) → IsGroup seen group
-    → group.has_bad ≡ true → InJson f (AreLinesOf a seen) old old
-InJson-bad form.Lines a seen group old is bad = tt
-InJson-bad form.Zeros a seen group old is bad = tt
-InJson-bad form.Json a seen group old is bad = ([], inl (rw bad at is.bad, refl), sym (append-nil old))
+-- no warnings on a group with a refused text
+pub AreSaidOf-bad : (a : Asked) (seen : List Seen) (group : Group) (said : List Said) → IsGroup seen group
+    → group.has_bad ≡ true → said ≡ [] → AreSaidOf a seen said
+AreSaidOf-bad a seen group said is bad none = inl (rw bad at is.bad, none)
 
--- the lines on another one
-pub InJson-good : (f : Form) (a : Asked) (seen : List Seen) (group : Group) (ws : List Warning) (old new : List ℕ)
-    → IsGroup seen group → group.has_bad ≡ false
-    → (f ≡ form.Json → AreSaidOn a (map reading_of group.specs.items) (map given_of group.texts.items) (map said_of ws))
-    → InJson f (AreInOrder IsSaidLine (map said_of ws)) old new → InJson f (AreLinesOf a seen) old new
-InJson-good f a seen group ws old new is none said wrote =
+-- those on another one
+pub AreSaidOf-good : (a : Asked) (seen : List Seen) (group : Group) (said : List Said) → IsGroup seen group
+    → group.has_bad ≡ false → AreSaidOn a (map reading_of group.specs.items) (map given_of group.texts.items) said
+    → AreSaidOf a seen said
+AreSaidOf-good a seen group said is none are =
     let good = good_group seen group is none in
-    InJson-as f (AreInOrder IsSaidLine (map said_of ws)) (AreLinesOf a seen) old new
-    (λ json lines are. inr (
+    inr (
       map reading_of group.specs.items,
       good.0,
-      (
-        map said_of ws,
-        subst (λ (t : List Given). AreSaidOn a (map reading_of group.specs.items) t (map said_of ws)) good.1
-            (said json),
-        are,
-      ),
-    )) wrote
+      subst (λ (t : List Given). AreSaidOn a (map reading_of group.specs.items) t said) good.1 are,
+    )

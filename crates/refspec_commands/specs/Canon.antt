@@ -1,18 +1,21 @@
--- The output of `canon`, in the terms of the library.
-use Rattle.std.specs.Prelude.{◌≡◌, ◌⊎◌, ℕ, List, [], ◌∷◌, None, Some, codes, map}
+-- The results on checked texts: the output of `canon`, in the terms of the library. What else is said of specs is left
+-- open.
+use Rattle.std.specs.Prelude.{◌≡◌, ◌⊎◌, ℕ, List, [], ◌∷◌, Option, None, Some, codes, map, ⊤}
 use Rattle.gix_refspec_text.specs.declared.parsing.Operation.{Operation}
 use Rattle.gix_refspec.specs.Specs.Grammar.{Reads}
 use Rattle.gix_refspec.specs.Specs.Meaning.{printed}
 use Rattle.gix_refspec.specs.Specs.Reading.{Reading}
 use Rattle.gix_refspec.specs.Specs.Refusal.{IsRefused, Refusal}
 use Rattle.gix_refspec.specs.Views.Spec.{reading_of}
+use Rattle.refspec_json.specs.declared.specs.SpecKind.{SpecKind}
+use Rattle.refspec_json.specs.declared.specs.SpecKind.TheVariants as kind
 use Rattle.refspec_io.specs.declared.call.Form.{Form}
 use Rattle.refspec_io.specs.declared.call.Form.TheVariants as form
 use Rattle.refspec_io.specs.declared.checked.Checked.{Checked}
 use Rattle.refspec_io.specs.declared.checked.Checked.TheVariants as checked
 use Rattle.refspec_io.specs.declared.texts.Text.{Text}
 use Rattle.refspec_io.specs.Json.{AddsObjects, AreInOrder, IsRefusedLine, IsSpecLine, WritesSpec}
-use Rattle.refspec_io.specs.Read.{IsRefusal}
+use Rattle.refspec_io.specs.Read.{IsRefusal, IsRefusalOf}
 use Rattle.refspec_io.specs.Shown.{AddsNames}
 use Rattle.refspec_io.specs.Texts.{Given, given_of, said}
 
@@ -59,6 +62,13 @@ AddsCanonical form.Lines all old new = (names : List (List ℕ)) × AreCanonical
     × AddsNames form.Lines [] names old new
 AddsCanonical form.Zeros all old new = (names : List (List ℕ)) × AreCanonicalOf all names
     × AddsNames form.Zeros [] names old new
+
+-- the results grew by what a kind says of checked texts: their canonical texts, or for none only the refusals in JSON
+abbrev pub AddsShown : Option SpecKind → Form → List Checked → List ℕ → List ℕ → Type 0
+AddsShown None form all old new = AddsObjects form IsRefusalOf all old new
+AddsShown (Some kind.Canonical) form all old new = AddsCanonical form all old new
+AddsShown (Some kind.Meaning) form all old new = ⊤
+AddsShown (Some kind.Good) form all old new = ⊤
 
 -- the output is the canonical texts of those texts that are specs, in the given form; in JSON refusals too
 abbrev pub ShowsCanonical : Form → List Given → List ℕ → Type 0

@@ -1,25 +1,31 @@
--- The output of `prefixes`, in the terms of the library.
+-- What `prefixes` requests from a server, and its output, in the terms of the library.
 use Rattle.std.specs.Prelude.{◌≡◌, ◌≢◌, ◌⊎◌, ℕ, Bool, true, false, List, [], ◌∷◌, ◌++◌, MatchBool, Some, map, codes}
 use Rattle.std.specs.List.{flat_map}
+use Rattle.bstr.specs.Owned.{bstring_bytes}
 use Rattle.gix_refspec.specs.Matching.Asked.{HasNoList, ListsGroup}
 use Rattle.gix_refspec.specs.Specs.Grammar.{IsPositive}
 use Rattle.gix_refspec.specs.Specs.Meaning.{printed}
 use Rattle.gix_refspec.specs.Specs.Reading.{Reading}
+use Rattle.gix_refspec.specs.Views.Spec.{reading_of}
 use Rattle.refspec_json.specs.Objects.{line_of, noted_object, nothing_object, prefix_object}
 use Rattle.refspec_io.specs.declared.call.Form.{Form}
 use Rattle.refspec_io.specs.declared.call.Form.TheVariants as form
 use Rattle.refspec_io.specs.Json.{AddsObjects, json_text}
 use Rattle.refspec_io.specs.Shown.{AddsNames}
+use Rattle.refspec_commands.specs.declared.prefixes.answer.Answer.{Answer}
+use Rattle.refspec_commands.specs.declared.prefixes.answer.Answer.TheVariants as answer
+use Rattle.refspec_commands.specs.declared.prefixes.report.Notation.{Notation}
+use Rattle.refspec_commands.specs.declared.prefixes.report.Notation.TheVariants as notation
 
 -- what precedes a prefix in a line: the name of its argument in protocol v2, and nothing before a pattern
-abbrev pub argument : Bool → List ℕ
-argument true = []
-argument false = codes "ref-prefix "
+abbrev pub argument : Notation → List ℕ
+argument notation.Pattern = []
+argument notation.Argument = codes "ref-prefix "
 
 -- what is requested: the prefix, or the pattern that matches all names with this prefix
-abbrev pub request : Bool → List ℕ → List ℕ
-request true prefix = prefix ++ (42 ∷ [])
-request false prefix = prefix
+abbrev pub request : Notation → List ℕ → List ℕ
+request notation.Pattern prefix = prefix ++ (42 ∷ [])
+request notation.Argument prefix = prefix
 
 -- the object of a spec for which all refs must be requested, and a sentence on it
 pub record IsReasonObject (r : Reading) (line : List ℕ) : Type 0 where
@@ -28,26 +34,21 @@ pub record IsReasonObject (r : Reading) (line : List ℕ) : Type 0 where
   pub is_text : printed r ≡ Some text
   pub is : line ≡ line_of (noted_object (codes "all") (json_text text) message)
 
--- the report on a spec: that object if no list of prefixes is safe for it, else nothing
-abbrev pub IsReason : Reading → List ℕ → Type 0
-IsReason r line = (HasNoList (r ∷ []) × IsReasonObject r line)
-    ⊎ (((list : List (List ℕ)) × ListsGroup (r ∷ []) list) × (line ≡ []))
-
 -- the line that stands for all refs: the pattern `*`, or `(all)`
-abbrev pub all_line : Bool → List ℕ
-all_line true = codes "*\n"
-all_line false = codes "(all)\n"
+abbrev pub all_line : Notation → List ℕ
+all_line notation.Pattern = codes "*\n"
+all_line notation.Argument = codes "(all)\n"
 
 -- the record that stands for all refs: the same pattern, or the empty prefix, ended by a zero byte
-abbrev pub all_field : Bool → List ℕ
-all_field true = 42 ∷ 0 ∷ []
-all_field false = 0 ∷ []
+abbrev pub all_field : Notation → List ℕ
+all_field notation.Pattern = 42 ∷ 0 ∷ []
+all_field notation.Argument = 0 ∷ []
 
 -- the results grew by that, or in JSON by the objects of the specs that are the reason
-abbrev pub AddsAll : Bool → Form → List Reading → List ℕ → List ℕ → Type 0
-AddsAll patterns form.Lines g old new = new ≡ old ++ all_line patterns
-AddsAll patterns form.Zeros g old new = new ≡ old ++ all_field patterns
-AddsAll patterns form.Json g old new = AddsObjects form.Json IsReason g old new
+abbrev pub AddsAll : Notation → Form → List Reading → List ℕ → List ℕ → Type 0
+AddsAll n form.Lines g old new = new ≡ old ++ all_line n
+AddsAll n form.Zeros g old new = new ≡ old ++ all_field n
+AddsAll n form.Json g old new = AddsObjects form.Json IsReasonObject g old new
 
 -- the results grew by the report that no request is needed: a line, no record, or an object with a sentence
 abbrev pub AddsNothing : Form → List ℕ → List ℕ → Type 0
@@ -57,20 +58,18 @@ AddsNothing form.Json old new = (message : List ℕ) × (new ≡ old ++ line_of 
 
 -- the object of a prefix, as a line, with the pattern that matches all names with this prefix
 abbrev pub asked_object : List ℕ → List ℕ
-asked_object prefix = line_of (prefix_object (json_text prefix) (json_text (request true prefix)))
+asked_object prefix = line_of (prefix_object (json_text prefix) (json_text (request notation.Pattern prefix)))
 
 -- the results grew by prefixes, in order
-abbrev pub AddsRequests : Bool → Form → List (List ℕ) → List ℕ → List ℕ → Type 0
-AddsRequests patterns form.Json list old new = new ≡ old ++ flat_map asked_object list
-AddsRequests patterns form.Lines list old new = AddsNames form.Lines (argument patterns) (map (request patterns) list)
-    old new
-AddsRequests patterns form.Zeros list old new = AddsNames form.Zeros (argument patterns) (map (request patterns) list)
-    old new
+abbrev pub AddsRequests : Notation → Form → List (List ℕ) → List ℕ → List ℕ → Type 0
+AddsRequests n form.Json list old new = new ≡ old ++ flat_map asked_object list
+AddsRequests n form.Lines list old new = AddsNames form.Lines (argument n) (map (request n) list) old new
+AddsRequests n form.Zeros list old new = AddsNames form.Zeros (argument n) (map (request n) list) old new
 
 -- the results grew by prefixes, or by the report that no request is needed
-abbrev pub AddsList : Bool → Form → List (List ℕ) → List ℕ → List ℕ → Type 0
-AddsList patterns form [] old new = AddsNothing form old new
-AddsList patterns form (p ∷ list) old new = AddsRequests patterns form (p ∷ list) old new
+abbrev pub AddsList : Notation → Form → List (List ℕ) → List ℕ → List ℕ → Type 0
+AddsList n form [] old new = AddsNothing form old new
+AddsList n form (p ∷ list) old new = AddsRequests n form (p ∷ list) old new
 
 -- the spec is positive, and its star is right after `refs/`: Git requests `refs/` for it (git-fetch(1), protocol v2)
 abbrev pub TakesWhole : Reading → Type 0
@@ -96,9 +95,25 @@ pub record ListsAsked (g others : List Reading) (list : List (List ℕ)) : Type 
   pub lists : ListsGroup others own
   pub is : list ≡ asked_with has_whole own
 
--- the results grew by these prefixes, or by what stands for all refs if no list is safe for the other specs
-abbrev pub AddsPrefixes : Bool → Form → List Reading → List ℕ → List ℕ → Type 0
-AddsPrefixes patterns form g old new =
-    (others : List Reading) × AreOthers g others
-    × (((list : List (List ℕ)) × ListsAsked g others list × AddsList patterns form list old new)
-    ⊎ (HasNoList others × AddsAll patterns form others old new))
+-- the specs for which no list is safe, in order; each other has one
+abbrev pub AreReasons : List Reading → List Reading → Type 0
+AreReasons [] reasons = reasons ≡ []
+AreReasons (r ∷ g) reasons =
+    (HasNoList (r ∷ []) × ((rest : List Reading) × AreReasons g rest × (reasons ≡ r ∷ rest)))
+    ⊎ (((list : List (List ℕ)) × ListsGroup (r ∷ []) list) × AreReasons g reasons)
+
+-- the answer for specs with these readings: prefixes, or all refs if no list is safe for the other specs
+abbrev pub IsAnswer : List Reading → Answer → Type 0
+IsAnswer g (answer.Listed list) =
+    (others : List Reading) × AreOthers g others × ListsAsked g others (map bstring_bytes list.items)
+IsAnswer g (answer.All reasons) =
+    (others : List Reading) × AreOthers g others × HasNoList others × AreReasons others (map reading_of reasons.items)
+
+-- the results grew by an answer
+abbrev pub AddsAnswer : Notation → Answer → Form → List ℕ → List ℕ → Type 0
+AddsAnswer n (answer.Listed list) form old new = AddsList n form (map bstring_bytes list.items) old new
+AddsAnswer n (answer.All reasons) form old new = AddsAll n form (map reading_of reasons.items) old new
+
+-- the results grew by the answer for specs with these readings
+abbrev pub AddsPrefixes : Notation → Form → List Reading → List ℕ → List ℕ → Type 0
+AddsPrefixes n form g old new = (found : Answer) × IsAnswer g found × AddsAnswer n found form old new

@@ -18,6 +18,7 @@ use Rattle.gix_refspec_lint.specs.Matching.Lint.{Example, IsFree, Nesting, Unuse
 use Rattle.refspec_json.specs.Objects.{Warned, line_of, warning_object}
 use Rattle.refspec_io.specs.declared.call.Form.{Form}
 use Rattle.refspec_io.specs.declared.call.Form.TheVariants as form
+use Rattle.refspec_io.specs.declared.report.Report.{Report}
 use Rattle.refspec_io.specs.Json.{AreInOrder, json_text}
 use Rattle.refspec_io.specs.Messages.{IsSpot}
 use Rattle.refspec_io.specs.Rows.{source_text}
@@ -232,23 +233,36 @@ abbrev pub AreSaidOn : Asked → List Reading → List Given → List Said → T
 AreSaidOn a g texts said =
     (IsForFetch texts × AreSaid a g texts said) ⊎ (¬ (IsForFetch texts) × AllByRecursion IsOtherSaid said)
 
--- their lines
-abbrev pub AreLinesOn : Asked → List Reading → List Given → List ℕ → Type 0
-AreLinesOn a g texts lines = (said : List Said) × AreSaidOn a g texts said × AreInOrder IsSaidLine said lines
+-- the warnings on the texts of a key: none if one of these is refused, which may change all
+abbrev pub AreSaidOf : Asked → List Seen → List Said → Type 0
+AreSaidOf a group said =
+    (HasUnread group × (said ≡ []))
+    ⊎ ((g : List Reading) × AreAllRead group g × AreSaidOn a g (map (λ s. s.text) group) said)
 
--- the lines of the warnings on the texts of a key: none if one of these is refused, which may change all
-abbrev pub AreLinesOf : Asked → List Seen → List ℕ → Type 0
-AreLinesOf a group lines =
-    (HasUnread group × (lines ≡ []))
-    ⊎ ((g : List Reading) × AreAllRead group g × AreLinesOn a g (map (λ s. s.text) group) lines)
+-- what is said of some keys, in order
+abbrev pub AreInTurn : (List ℕ → List Said → Type 0) → List (List ℕ) → List Said → Type 0
+AreInTurn Says [] said = said ≡ []
+AreInTurn Says (key ∷ keys) said =
+    (one : List Said) × (rest : List Said) × Says key one × AreInTurn Says keys rest × (said ≡ one ++ rest)
 
--- the lines of the warnings on texts, by their keys; a fetch by the values of a key takes what it asks for besides
-abbrev pub AreWarnings : (List ℕ → Asked) → List Seen → List ℕ → Type 0
-AreWarnings asks seen lines =
-    (keys : List (List ℕ)) × AreKeys seen keys × AreInOrder (λ key some. AreLinesOf (asks key) (of_key key seen) some)
-    keys lines
+-- the warnings on texts, by their keys; a fetch by the values of a key takes what it asks for besides
+abbrev pub AreWarnings : (List ℕ → Asked) → List Seen → List Said → Type 0
+AreWarnings asks seen said =
+    (keys : List (List ℕ)) × AreKeys seen keys × AreInTurn (λ key some. AreSaidOf (asks key) (of_key key seen) some)
+    keys
+    said
 
--- in JSON, bytes grew by such lines
-abbrev pub InJson : Form → (List ℕ → Type 0) → List ℕ → List ℕ → Type 0
-InJson form.Json AreLines old new = (lines : List ℕ) × AreLines lines × (new ≡ old ++ lines)
-InJson _ AreLines old new = ⊤
+-- ---- their report
+
+-- the lines of a warning; what follows the word is left open
+abbrev pub IsSaidText : Said → List ℕ → Type 0
+IsSaidText s lines = BeginsWith (codes "warning: ") lines
+
+-- warnings were appended, in order: behind the messages, or in JSON as results
+abbrev pub AddsSaid : Form → List Said → Report → Report → Type 0
+AddsSaid form.Json said old new =
+    (new.messages.items ≡ old.messages.items)
+    × ((lines : List ℕ) × AreInOrder IsSaidLine said lines × (new.results.items ≡ old.results.items ++ lines))
+AddsSaid _ said old new =
+    (new.results.items ≡ old.results.items)
+    × ((lines : List ℕ) × AreInOrder IsSaidText said lines × (new.messages.items ≡ old.messages.items ++ lines))

@@ -1,71 +1,73 @@
--- The messages and the exit status of `check`: the refusals, and behind them the warnings on valid specs. This
--- project's own
--- rule. In lines, what a warning says is left open; for JSON see `Warned`.
-use Rattle.std.specs.Prelude.{◌≡◌, ◌≢◌, ℕ, Bool, true, false, ◌||◌, ◌&&◌, List, [], ◌++◌, map, MatchBool, ⊤}
+-- The answer and the exit status of `check`, and its report: the refusals, and behind them the warnings on valid specs.
+-- This
+-- project's own rule. In lines, what a warning says is left open; for JSON see `Warned`.
+use Rattle.std.specs.Prelude.{◌≡◌, ◌≢◌, ◌⊎◌, ℕ, Bool, true, false, ◌||◌, ◌&&◌, List, [], Option, map, MatchBool, ⊤}
 use Rattle.std.specs.List.{AllZip}
+use Rattle.refspec_json.specs.declared.specs.SpecKind.{SpecKind}
 use Rattle.refspec_io.specs.declared.call.Call.{Call}
 use Rattle.refspec_io.specs.declared.call.Form.{Form}
 use Rattle.refspec_io.specs.declared.call.Form.TheVariants as form
-use Rattle.refspec_io.specs.declared.checked.Checked.{Checked}
+use Rattle.refspec_io.specs.declared.report.Report.{Report}
 use Rattle.refspec_io.specs.Messages.{AreRefusals, ReportsRefusals}
-use Rattle.refspec_io.specs.Read.{AreGood, DecidesRefused, HasBad}
+use Rattle.refspec_io.specs.Read.{AreGood, DecidesRefused, HasBad, IsChecked}
 use Rattle.refspec_io.specs.Texts.{Given, said}
+use Rattle.refspec_commands.specs.declared.checking.Answer.{Answer}
+use Rattle.refspec_commands.specs.declared.checking.Question.{Question}
+use Rattle.refspec_commands.specs.Canon.{AddsShown}
 use Rattle.refspec_commands.specs.Seen.{IsSeen, Seen}
-use Rattle.refspec_commands.specs.Warned.{AreWarnings, nothing_asked}
-use Rattle.refspec_commands.specs.WarnedViews.{seen_of}
+use Rattle.refspec_commands.specs.Warned.{AddsSaid, AreWarnings, Asked, Said, nothing_asked}
+use Rattle.refspec_commands.specs.WarnedViews.{asked_at, said_of, seen_of}
 
--- bytes were appended to the messages; in JSON to the results
-abbrev pub AreAppended : Form → (bytes : List ℕ) → (messages_old messages_new results_old results_new : List ℕ) → Type 0
-AreAppended form.Json bytes messages_old messages_new results_old results_new = (messages_new ≡ messages_old)
-    × (results_new ≡ results_old ++ bytes)
-AreAppended _ bytes messages_old messages_new results_old results_new = (messages_new ≡ messages_old ++ bytes)
-    × (results_new ≡ results_old)
+-- ---- the answer
 
--- in JSON, bytes are the warnings on texts of which no remote is known
-abbrev pub SaysWarnings : Form → List Seen → List ℕ → Type 0
-SaysWarnings form.Json seen bytes = AreWarnings (λ key. nothing_asked) seen bytes
-SaysWarnings _ seen bytes = ⊤
+-- in JSON, the warnings on texts
+abbrev pub AreInJson : Form → (List ℕ → Asked) → List Seen → List Said → Type 0
+AreInJson form.Json asks seen warnings = AreWarnings asks seen warnings
+AreInJson _ asks seen warnings = ⊤
 
--- the warnings on texts were appended; warned says whether there are any
-pub record AddsWarnings (f : Form) (seen : List Seen) (warned : Bool)
-    (messages_old messages_new results_old results_new : List ℕ) : Type 0 where
-  pub warnings : List ℕ
-  pub says : SaysWarnings f seen warnings
-  pub are : AreAppended f warnings messages_old messages_new results_old results_new
-  pub any : MatchBool warned (warnings ≢ []) (warnings ≡ [])
+-- the warnings on texts, if they are asked for; else none
+abbrev pub WarnsIf : (warns : Bool) → Form → (List ℕ → Asked) → List Seen → List Said → Type 0
+WarnsIf true f asks seen warnings = AreInJson f asks seen warnings
+WarnsIf false f asks seen warnings = warnings ≡ []
 
--- the same if the call asks for warnings; else there are none
-abbrev pub WarnsIf : (warns : Bool) → Form → List Seen → (warned : Bool)
-    → (messages_old messages_new results_old results_new : List ℕ) → Type 0
-WarnsIf true f seen warned messages_old messages_new results_old results_new =
-    AddsWarnings f seen warned messages_old messages_new results_old results_new
-WarnsIf false f seen warned messages_old messages_new results_old results_new = (messages_new ≡ messages_old)
-    × (results_new ≡ results_old) × (warned ≡ false)
+-- the answer: each text is a spec or refused, and the warnings on the specs
+pub record IsCheck (q : Question) (a : Answer) : Type 0 where
+  pub checked : AllZip IsChecked q.texts.now a.checked.items
+  pub warns : WarnsIf q.warns q.form (asked_at q.beside) (map seen_of a.checked.items) (map said_of a.warnings.items)
 
--- what `check` wrote on its texts: the refusals and other results, and then the warnings. It fails if a text is
--- refused, or if
--- the call is strict and there is a warning
-pub record ShowsCheck (call : Call) (texts : List Given) (messages : List ℕ) (failed : Bool) (output : List ℕ) :
-    Type 0 where
-  pub refusals : List ℕ
-  pub results : List ℕ
+-- the exit status: 1 if a text is refused, else 0
+abbrev pub IsStatus : Answer → ℕ → Type 0
+IsStatus a status = ((status ≡ 1) × HasBad a.checked.items) ⊎ ((status ≡ 0) × AreGood a.checked.items)
+
+-- that of a strict call: 1 also if there is a warning
+abbrev pub IsStrictStatus : Answer → ℕ → Type 0
+IsStrictStatus a status =
+    ((status ≡ 1) × (HasBad a.checked.items ⊎ (a.warnings.items ≢ [])))
+    ⊎ ((status ≡ 0) × AreGood a.checked.items × (a.warnings.items ≡ []))
+
+-- ---- the report
+
+-- the report grew by an answer: the refusals and what a kind says of the specs, and then the warnings
+pub record AddsCheck (kind : Option SpecKind) (a : Answer) (old new : Report) : Type 0 where
+  pub told : Report
+  pub form : told.form ≡ old.form
+  pub shown : AddsShown kind old.form a.checked.items old.results.items told.results.items
+  pub refused : ReportsRefusals old.form a.checked.items old.messages.items told.messages.items
+  pub warned : AddsSaid old.form (map said_of a.warnings.items) told new
+
+-- what a call of `check` reports on its texts, and whether it fails: if a text is refused, or the call is strict and
+-- there is
+-- a warning
+pub record ShowsCheck (call : Call) (texts : List Given) (report : Report) (failed : Bool) : Type 0 where
+  pub told : Report
   pub refused : Bool
   pub seen : List Seen
+  pub warnings : List Said
   pub warned : Bool
-  pub are : AreRefusals call.form texts refusals
+  pub are : AreRefusals call.form texts told.messages.items
   pub decides : DecidesRefused refused (map said texts)
   pub sees : AllZip IsSeen texts seen
-  pub warns : WarnsIf call.warns call.form seen warned refusals messages results output
-  pub status : failed ≡ (refused || (call.is_strict && warned))
-
--- the same of the checked texts; before are the earlier messages
-pub record ReportsCheck (call : Call) (f : Form) (before messages : List ℕ) (failed : Bool) (all : List Checked)
-    (output : List ℕ) : Type 0 where
-  pub refusals : List ℕ
-  pub results : List ℕ
-  pub refused : Bool
-  pub warned : Bool
-  pub are : ReportsRefusals f all before refusals
-  pub decides : MatchBool refused (HasBad all) (AreGood all)
-  pub warns : WarnsIf call.warns f (map seen_of all) warned refusals messages results output
+  pub warns : WarnsIf call.warns call.form (λ key. nothing_asked) seen warnings
+  pub any : MatchBool warned (warnings ≢ []) (warnings ≡ [])
+  pub adds : AddsSaid call.form warnings told report
   pub status : failed ≡ (refused || (call.is_strict && warned))

@@ -2,11 +2,11 @@
 //! them writes. The program itself parses the arguments, and supplies the input and the outputs.
 #![tactic(auto)]
 
-mod canon;
+pub mod checking;
 mod mappings;
-mod prefixes;
+pub mod prefixes;
 pub mod run;
-mod specs;
+pub mod specs;
 mod track;
 pub mod tracking;
 pub mod warnings;

@@ -5,16 +5,18 @@ ghost use Rattle.std.specs.Io.KnownBytes.{Appends};
 ghost use Rattle.gix_refspec.specs.Views.Spec.{reading_of};
 ghost use Rattle.refspec_io.specs.Fault.{IsReadOrMemory, IsWrite, RefusesFormat};
 ghost use Rattle.refspec_io.specs.Settings.{HasNoSettings};
-ghost use Rattle.refspec_io.specs.Texts.{spec_input as specs_of};
-ghost use Rattle.refspec_commands.specs.Output.{AddsFound, Answers, IsInput, IsOutput, RefusesInput, Reports, status_of as exit_status};
+ghost use Rattle.refspec_io.specs.Texts.{given_of, spec_input as specs_of};
+ghost use Rattle.refspec_commands.specs.Output.{AddsFound, Answers, IsEmpty, IsInput, IsOutput, RefusesInput, ReportsChecked, Shows, notation_of as asked_notation, status_of as exit_status};
 ghost use Rattle.refspec_commands.specs.Run.{Leaves, ReadsWhole};
+ghost use Rattle.refspec_commands.specs.Warnings.{ShowsCheck};
 
-use crate::canon::report_canon;
-use crate::prefixes::report_prefixes;
-use crate::specs::{report_refusals, report_specs};
+use crate::checking::{self, Question};
+use crate::prefixes::answer::answer_to;
+use crate::prefixes::report::{Notation, report_answer};
+use crate::specs::report_texts;
 use crate::track::report_tracking;
-use crate::warnings::report_check;
 use gix_refspec::RefSpecRef;
+use refspec_fetch::fetch::report_fetch;
 use refspec_io::call::{Call, Command, Files, Task};
 use refspec_io::checked::{Checked, all_good, check_all, has_bad};
 use refspec_io::fault::Fault;
@@ -22,23 +24,22 @@ use refspec_io::input::read_input;
 use refspec_io::lacking::refuse_lacking;
 use refspec_io::report::Report;
 use refspec_io::settings::{has_lacking, settings_in};
-use refspec_io::texts::{spec_input, texts_of};
-use refspec_plans::fetch::report_fetch;
-use refspec_plans::plan::Discard;
+use refspec_io::texts::{Text, spec_input, texts_of};
+use refspec_json::SpecKind;
 use std::alloc::{AllocError, Global};
+use std::collections::BTreeMap;
 use std::io::{Read, Write};
 
 /// Reads the input to its end, if the call needs it, and writes the results to `output` and the messages to
-/// `errors`. A plan is handed to `done` before that. Returns the exit status: 1 if something is refused,
+/// `errors`. Returns the exit status: 1 if something is refused,
 /// missing, conflicting, left out, not found, or warned of in a strict call, else 0.
-pub fn run<R: Read, W: Write, E: Write, D: Discard>(
+pub fn run<R: Read, W: Write, E: Write>(
     alloc: Global,
     call: &Call<'_>,
     files: &Files<'_>,
     reader: &mut R,
     output: &mut W,
     errors: &mut E,
-    done: &mut D,
 ) -> Result<u8, Fault>
     ensures whole { IfOk result (λ _. ReadsWhole
         call.now.reads_input (R.remaining reader.old) (R.remaining reader.new)) }
@@ -57,7 +58,7 @@ pub fn run<R: Read, W: Write, E: Write, D: Discard>(
     ensures no_message { IfErr result (Leaves (E.contents errors.old) (E.contents errors.new)) }
 {
     let input = input_of(alloc, call, reader)?;
-    let (report, refused) = report_of(alloc, call, files, input.as_slice(), done)?;
+    let (report, refused) = report_of(alloc, call, files, input.as_slice())?;
     write_all(output, report.results.as_slice())?;
     write_all(errors, report.messages.as_slice())?;
     Ok(status_of(refused))
@@ -78,15 +79,13 @@ fn input_of<R: Read>(alloc: Global, call: &Call<'_>, reader: &mut R) -> Result<V
 }
 
 // The report of a call, and whether something is refused, missing, conflicting, left out or not found.
-fn report_of<D: Discard>(
+fn report_of(
     alloc: Global,
     call: &Call<'_>,
     files: &Files<'_>,
     input: &[u8],
-    done: &mut D,
 ) -> Result<(Report, bool), Fault>
-    ensures ok { IfOk result (λ made. IsOutput call.now files.now input.now
-        made.0.messages.items made.1 made.0.results.items) }
+    ensures ok { IfOk result (λ made. IsOutput call.now files.now input.now made.0 made.1) }
     ensures err { IfErr result (RefusesFormat (HasNoSettings call.now.ends files.now.specs.now
         (specs_of call.now.command files.now.configured.now input.now))) }
 {
@@ -98,58 +97,99 @@ fn report_of<D: Discard>(
         return Ok((report, true));
     }
     let texts = texts_of(alloc, call, files, input, settings.as_slice())?;
-    let all = check_all(alloc, texts.all.as_slice())?;
     let task = Task {
         call,
         input,
         local: files.local,
         given: texts.given,
     };
-    let refused = report_results(alloc, &task, all.as_slice(), &mut report, done)?;
+    let refused = report_results(alloc, &task, texts.all.as_slice(), &mut report)?;
     Ok((report, refused))
 }
 
-// Reports what a call asks for. If a text is refused, commands other than `canon`, `check` and `explain` report
-// only the refusals.
-fn report_results<D: Discard>(
+// Reports what a call asks for of its texts.
+fn report_results(
+    alloc: Global,
+    task: &Task<'_>,
+    texts: &[Text<'_>],
+    report: &mut Report,
+) -> Result<bool, AllocError>
+    ensures { IsEmpty task.now.call.now.form report.old → IfOk result (Shows
+        task.now.call.now.command task.now (map given_of texts.now) report.new) }
+{
+    match task.call.command {
+        Command::Check => report_check(alloc, task.call, texts, report),
+        _ => {
+            let all = check_all(alloc, texts)?;
+            report_checked(alloc, task, all.as_slice(), report)
+        }
+    }
+}
+
+// Reports which texts are refused, and what it warns of. Returns whether the call fails.
+fn report_check(
+    alloc: Global,
+    call: &Call<'_>,
+    texts: &[Text<'_>],
+    report: &mut Report,
+) -> Result<bool, AllocError>
+    ensures { IsEmpty call.now.form report.old → IfOk result (ShowsCheck call.now (map given_of texts.now) report.new) }
+{
+    let question = Question {
+        texts,
+        beside: BTreeMap::new(alloc),
+        warns: call.warns,
+        form: report.form,
+    };
+    let answer = checking::answer_to(alloc, &question)?;
+    let kind = if call.verbose {
+        Some(SpecKind::Good)
+    } else {
+        None
+    };
+    checking::report_answer(alloc, kind, &answer, report)?;
+    if call.is_strict {
+        return Ok(answer.strict_status() > 0);
+    }
+    Ok(answer.status() > 0)
+}
+
+// Reports what a call other than `check` asks for of checked texts. If one is refused, commands other than `canon` and
+// `explain` report only the refusals.
+fn report_checked(
     alloc: Global,
     task: &Task<'_>,
     all: &[Checked<'_>],
     report: &mut Report,
-    done: &mut D,
 ) -> Result<bool, AllocError>
-    ensures { IfOk result (λ refused. Reports task.now.call.now.command task.now
-        report.old.form report.old.messages.items report.new.messages.items refused
-        all.now report.old.results.items report.new.results.items) }
+    ensures { IfOk result (λ refused. ReportsChecked task.now.call.now.command task.now all.now
+        report.old report.new refused) }
 {
-    let call = task.call;
-    match call.command {
+    match task.call.command {
         Command::Canon => {
-            report_canon(alloc, all, report)?;
+            report_texts(alloc, Some(SpecKind::Canonical), all, report)?;
             Ok(has_bad(all))
         }
-        Command::Check => report_check(alloc, call, all, report),
         Command::Explain => {
-            report_specs(alloc, call.command, call.verbose, all, report)?;
+            report_texts(alloc, Some(SpecKind::Meaning), all, report)?;
             Ok(has_bad(all))
         }
         _ => match all_good(alloc, all)? {
             None => {
-                report_refusals(alloc, all, report)?;
+                report_texts(alloc, None, all, report)?;
                 Ok(true)
             }
-            Some(specs) => report_found(alloc, task, specs, report, done),
+            Some(specs) => report_found(alloc, task, specs, report),
         },
     }
 }
 
 // Reports the results of `plan`, `stale`, `track` or `prefixes` for specs.
-fn report_found<D: Discard>(
+fn report_found(
     alloc: Global,
     task: &Task<'_>,
     specs: Vec<RefSpecRef<'_>>,
     report: &mut Report,
-    done: &mut D,
 ) -> Result<bool, AllocError>
     ensures { IfOk result (λ refused. AddsFound task.now.call.now.command task.now
         report.old.form report.old.messages.items report.new.messages.items refused
@@ -157,14 +197,24 @@ fn report_found<D: Discard>(
 {
     let call = task.call;
     match call.command {
-        Command::Plan | Command::Stale => {
-            report_fetch(alloc, task, specs.as_slice(), report, done)
-        }
+        Command::Plan | Command::Stale => { report_fetch(alloc, task, specs.as_slice(), report) }
         Command::Track => report_tracking(alloc, call, specs, report),
         _ => {
-            report_prefixes(alloc, specs, call.patterns, report)?;
+            let answer = answer_to(alloc, specs.as_slice())?;
+            report_answer(alloc, notation_of(call), &answer, report)?;
             Ok(false)
         }
+    }
+}
+
+// How a call asks for prefixes to be written.
+fn notation_of(call: &Call<'_>) -> Notation
+    ensures { result ≡ asked_notation call.now.patterns }
+{
+    if call.patterns {
+        Notation::Pattern
+    } else {
+        Notation::Argument
     }
 }
 

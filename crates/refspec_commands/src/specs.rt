@@ -1,16 +1,18 @@
-//! Results on specs alone, without refs: whether they are good, and what they mean.
+//! The report on checked texts: their refusals, and of each spec its canonical text, its meaning, or that it is valid.
 
-ghost use Rattle.std.specs.Prelude.{◌≡◌, ◌∷◌, [], option_map, OnOk};
+ghost use Rattle.std.specs.Prelude.{◌≡◌, ◌∷◌, [], List, Some, option_map, OnOk, ℕ};
 ghost use Rattle.bstr.specs.Owned.{bstring_bytes};
+ghost use Rattle.gix_refspec.specs.Specs.Meaning.{printed};
+ghost use Rattle.gix_refspec.specs.Views.Spec.{reading_of};
 ghost use Rattle.refspec_json.specs.Views.{kind_name};
-ghost use Rattle.refspec_io.specs.Json.{AddsObjects, WritesSpec};
+ghost use Rattle.refspec_io.specs.Json.{WritesSpec};
 ghost use Rattle.refspec_io.specs.Messages.{ReportsRefusals};
-ghost use Rattle.refspec_io.specs.Read.{IsRefusalOf};
+ghost use Rattle.refspec_commands.specs.Canon.{AddsCanonicalName, AddsShown};
 
 use bstr::BString;
 use gix_refspec::RefSpecRef;
 use gix_refspec::parsing::Operation;
-use refspec_io::call::{Command, Form};
+use refspec_io::call::Form;
 use refspec_io::checked::Checked;
 use refspec_io::json;
 use refspec_io::quote::write_quoted;
@@ -21,78 +23,76 @@ use refspec_json::SpecKind;
 use std::alloc::{AllocError, Global};
 use std::collections::BTreeMap;
 
-/// Reports each refusal and, for each spec, what the command asks for, in order.
-pub fn report_specs(
+/// Reports each refusal, and of each spec what `kind` says, in order; for `None` nothing. Fails if memory runs out.
+pub fn report_texts(
     alloc: Global,
-    command: Command,
-    verbose: bool,
+    kind: Option<SpecKind>,
     all: &[Checked<'_>],
     report: &mut Report,
 ) -> Result<(), AllocError>
     ensures form { OnOk result (report.new.form ≡ report.old.form) }
-    ensures reported { OnOk result (ReportsRefusals report.old.form all.now
+    ensures reported { OnOk result (AddsShown kind report.old.form all.now
+        report.old.results.items report.new.results.items) }
+    ensures refused { OnOk result (ReportsRefusals report.old.form all.now
         report.old.messages.items report.new.messages.items) }
 {
     let mut seen = Seen::new(alloc);
     for checked in all {
-        match checked {
-            Checked::Bad { text, error } => report.report_refusal(alloc, text, error)?,
-            Checked::Good { text, spec } => {
-                report_spec(alloc, command, verbose, text, spec, &mut seen, report)?
-            }
-        }
+        report_text(alloc, kind, checked, &mut seen, report)?;
     }
     Ok(())
 }
 
-// Reports the meaning of a spec for `explain`; for `check`, that the spec is good, if `verbose`.
-fn report_spec<'a>(
+// Reports the refusal of a checked text, or what `kind` says of the spec.
+fn report_text<'a>(
     alloc: Global,
-    command: Command,
-    verbose: bool,
-    text: &Text<'a>,
-    spec: &RefSpecRef<'_>,
+    kind: Option<SpecKind>,
+    checked: &Checked<'a>,
     seen: &mut Seen<'a>,
     report: &mut Report,
 ) -> Result<(), AllocError>
     ensures form { OnOk result (report.new.form ≡ report.old.form) }
-    ensures no_message { OnOk result (report.new.messages ≡ report.old.messages) }
-{
-    match command {
-        Command::Explain => report_meaning(alloc, text, spec, report),
-        _ if verbose => report_good(alloc, text, spec, seen, report),
-        _ => Ok(()),
-    }
-}
-
-/// Reports each refusal, in order, and nothing about the specs.
-pub fn report_refusals(
-    alloc: Global,
-    all: &[Checked<'_>],
-    report: &mut Report,
-) -> Result<(), AllocError>
-    ensures objects { OnOk result (AddsObjects report.old.form IsRefusalOf all.now
+    ensures reported { OnOk result (AddsShown kind report.old.form (checked.now ∷ [])
         report.old.results.items report.new.results.items) }
-    ensures reported { OnOk result (ReportsRefusals report.old.form all.now
-        report.old.messages.items report.new.messages.items) }
-{
-    for checked in all {
-        refuse_bad(alloc, checked, report)?;
-    }
-    Ok(())
-}
-
-// Reports the refusal of a checked text, if it is refused.
-fn refuse_bad(alloc: Global, checked: &Checked<'_>, report: &mut Report) -> Result<(), AllocError>
-    ensures form { OnOk result (report.new.form ≡ report.old.form) }
-    ensures objects { OnOk result (AddsObjects report.old.form IsRefusalOf (checked.now ∷ [])
-        report.old.results.items report.new.results.items) }
-    ensures reported { OnOk result (ReportsRefusals report.old.form (checked.now ∷ [])
+    ensures refused { OnOk result (ReportsRefusals report.old.form (checked.now ∷ [])
         report.old.messages.items report.new.messages.items) }
 {
     match checked {
         Checked::Bad { text, error } => report.report_refusal(alloc, text, error),
-        Checked::Good { .. } => Ok(()),
+        Checked::Good { text, spec } => match kind {
+            None => Ok(()),
+            Some(SpecKind::Canonical) => report_canonical(alloc, text, spec, report),
+            Some(SpecKind::Meaning) => report_meaning(alloc, text, spec, report),
+            Some(SpecKind::Good) => report_good(alloc, text, spec, seen, report),
+        },
+    }
+}
+
+// Reports the canonical text of a spec.
+fn report_canonical(
+    alloc: Global,
+    text: &Text<'_>,
+    spec: &RefSpecRef<'_>,
+    report: &mut Report,
+) -> Result<(), AllocError>
+    ensures form { OnOk result (report.new.form ≡ report.old.form) }
+    ensures no_message { OnOk result (report.new.messages ≡ report.old.messages) }
+    ensures reported { OnOk result ((name : List ℕ) × (printed (reading_of spec.now) ≡ Some name)
+        × AddsCanonicalName report.old.form text.now name
+        report.old.results.items report.new.results.items) }
+{
+    let canonical = spec.to_bstring(alloc)?;
+    match report.form {
+        Form::Json => {
+            let shown = Shown {
+                kind: SpecKind::Canonical,
+                canonical: &canonical,
+                meaning: None,
+                same_as: None,
+            };
+            write_spec(alloc, text, &shown, &mut report.results)
+        }
+        Form::Lines | Form::Zeros => report.write_name(b"", canonical.as_bytes()),
     }
 }
 
@@ -106,32 +106,25 @@ fn report_meaning(
     ensures form { OnOk result (report.new.form ≡ report.old.form) }
     ensures no_message { OnOk result (report.new.messages ≡ report.old.messages) }
 {
-    match report.form {
-        Form::Lines => {
-            write_sentence(alloc, &mut report.results, spec, report.form)?;
-            report.results.push(b'\n')?;
-        }
-        Form::Zeros => {
-            write_sentence(alloc, &mut report.results, spec, report.form)?;
-            report.results.push(0)?;
-        }
+    let mut sentence = Vec::new(alloc);
+    write_sentence(alloc, &mut sentence, spec, report.form)?;
+    let end = match report.form {
+        Form::Lines => b'\n',
+        Form::Zeros => 0,
         Form::Json => {
             let canonical = spec.to_bstring(alloc)?;
-            let mut sentence = Vec::new(alloc);
-            write_sentence(alloc, &mut sentence, spec, report.form)?;
             let sentence = json::text_of(alloc, sentence.as_slice())?;
-            write_spec(
-                alloc,
-                SpecKind::Meaning,
-                text,
-                &canonical,
-                Some(sentence.as_str()),
-                None,
-                &mut report.results,
-            )?;
+            let shown = Shown {
+                kind: SpecKind::Meaning,
+                canonical: &canonical,
+                meaning: Some(sentence.as_str()),
+                same_as: None,
+            };
+            return write_spec(alloc, text, &shown, &mut report.results);
         }
-    }
-    Ok(())
+    };
+    report.results.append(&mut sentence)?;
+    Ok(report.results.push(end)?)
 }
 
 // Reports that a spec is good, and the location of an earlier duplicate, if there is one.
@@ -152,16 +145,13 @@ fn report_good<'a>(
             None => None,
             Some(location) => Some(json::shown_location(alloc, location)?),
         };
-        let same_as = location.as_ref().map(|location| location.as_str());
-        return write_spec(
-            alloc,
-            SpecKind::Good,
-            text,
-            &canonical,
-            None,
-            same_as,
-            &mut report.results,
-        );
+        let shown = Shown {
+            kind: SpecKind::Good,
+            canonical: &canonical,
+            meaning: None,
+            same_as: location.as_ref().map(|location| location.as_str()),
+        };
+        return write_spec(alloc, text, &shown, &mut report.results);
     }
     write_good(text, &canonical, &earlier, report.form, &mut report.results)
 }
@@ -175,8 +165,8 @@ fn write_good(
     form: Form,
     out: &mut Vec<u8>,
 ) -> Result<(), AllocError> {
+    text.location.write(out, form)?;
     if form == Form::Zeros {
-        text.location.write(out, form)?;
         out.push(0)?;
         out.extend_from_slice(canonical.as_bytes())?;
         out.push(0)?;
@@ -186,7 +176,6 @@ fn write_good(
         out.push(0)?;
         return Ok(());
     }
-    text.location.write(out, form)?;
     out.extend_from_slice(b": ")?;
     write_quoted(out, canonical.as_bytes())?;
     if let Some(location) = earlier {
@@ -198,31 +187,38 @@ fn write_good(
     Ok(())
 }
 
-/// Appends the object of a spec, as a line.
-pub fn write_spec(
-    alloc: Global,
+// What the object of a spec shows beside its text.
+#[derive(Clone, Copy)]
+struct Shown<'c, 's> {
     kind: SpecKind,
+    canonical: &'c BString,
+    meaning: Option<&'s str>,
+    // The location of an earlier duplicate.
+    same_as: Option<&'s str>,
+}
+
+// Appends the object of a spec, as a line.
+fn write_spec(
+    alloc: Global,
     text: &Text<'_>,
-    canonical: &BString,
-    meaning: Option<&str>,
-    same_as: Option<&str>,
+    shown: &Shown<'_, '_>,
     out: &mut Vec<u8>,
 ) -> Result<(), AllocError>
-    ensures { OnOk result (WritesSpec (kind_name kind) text.now (bstring_bytes canonical.now)
-        (option_map (λ t. t.now) meaning.entry) (option_map (λ t. t.now) same_as.entry)
+    ensures { OnOk result (WritesSpec (kind_name shown.now.kind) text.now (bstring_bytes shown.now.canonical.now)
+        (option_map (λ t. t.now) shown.now.meaning) (option_map (λ t. t.now) shown.now.same_as)
         out.old.items out.new.items) }
 {
     let location = json::shown_location(alloc, &text.location)?;
-    let shown = json::text_of(alloc, text.bytes)?;
-    let canonical = json::text_of(alloc, canonical.as_bytes())?;
+    let bytes = json::text_of(alloc, text.bytes)?;
+    let canonical = json::text_of(alloc, shown.canonical.as_bytes())?;
     let object = refspec_json::Spec {
-        kind,
+        kind: shown.kind,
         location: location.as_str(),
         operation: json::operation_of(text.operation),
-        text: shown.as_str(),
+        text: bytes.as_str(),
         canonical: canonical.as_str(),
-        meaning,
-        same_as,
+        meaning: shown.meaning,
+        same_as: shown.same_as,
     };
     object.write_line(alloc, out)
 }

@@ -1,6 +1,6 @@
 //! The warnings of `check`: what valid specs do, but hardly anybody wants.
 
-ghost use Rattle.std.specs.Prelude.{◌≡◌, ◌⊎◌, ◌++◌, ◌∷◌, [], Err, List, Ok, map, option_to_list, IfOk, OnOk};
+ghost use Rattle.std.specs.Prelude.{◌≡◌, ◌⊎◌, ◌++◌, ◌∷◌, [], Err, List, Ok, map, option_to_list, IfOk, OnOk, ℕ};
 ghost use Rattle.std.specs.List.{AllZip};
 ghost use Rattle.gix_refspec_text.specs.Views.Spec.{reading_of};
 ghost use Rattle.gix_refspec_lint.specs.declared.Error.TheVariants as lint_error;
@@ -8,10 +8,9 @@ ghost use Rattle.refspec_json.specs.Views.{warned_texts};
 ghost use Rattle.refspec_io.specs.declared.call.Form.TheVariants.{Json};
 ghost use Rattle.refspec_io.specs.Shown.{WritesQuoted};
 ghost use Rattle.refspec_io.specs.Texts.{given_of};
-ghost use Rattle.refspec_commands.specs.Seen.{IsSeen, Seen};
-ghost use Rattle.refspec_commands.specs.Warned.{AreLinesOf, AreSaidOn, AreWarnings, InJson, IsSaidLine, IsWarned};
+ghost use Rattle.refspec_commands.specs.Seen.{Seen};
+ghost use Rattle.refspec_commands.specs.Warned.{AddsSaid, AreSaidOf, AreSaidOn, AreWarnings, IsSaidLine, IsSaidText, IsWarned};
 ghost use Rattle.refspec_commands.specs.WarnedViews.{IsGroup, SpecsMatchTexts, asked_at, asked_of, said_of, seen_of, topic_name};
-ghost use Rattle.refspec_commands.specs.Warnings.{AreAppended, ReportsCheck, WarnsIf};
 
 pub mod beside;
 mod conflicts;
@@ -23,12 +22,11 @@ mod near;
 mod required;
 mod rules;
 
-use crate::specs::report_specs;
 use beside::Beside;
 use gix_refspec::parsing::Operation;
 use group::{Group, groups_of};
-use refspec_io::call::{Call, Command, Form};
-use refspec_io::checked::{Checked, check_all, has_bad};
+use refspec_io::call::Form;
+use refspec_io::checked::Checked;
 use refspec_io::json;
 use refspec_io::quote::write_in_message;
 use refspec_io::report::Report;
@@ -162,41 +160,55 @@ impl<'a> Warning<'a> {
         Ok(warning)
     }
 
-    /// Appends it, in lines or as an object.
-    pub fn write(&self, alloc: Global, form: Form, out: &mut Vec<u8>) -> Result<(), AllocError>
-        ensures { OnOk result (InJson form (IsSaidLine (said_of self.now)) out.old.items out.new.items) }
+    // Reports it.
+    fn report(&self, alloc: Global, report: &mut Report) -> Result<(), AllocError>
+        ensures form { OnOk result (report.new.form ≡ report.old.form) }
+        ensures said { OnOk result (AddsSaid report.old.form (said_of self.now ∷ []) report.old report.new) }
     {
-        match form {
-            Form::Json => self.write_object(alloc, out),
-            Form::Lines | Form::Zeros => self.write_lines(alloc, out),
+        match report.form {
+            Form::Json => self.write_object(alloc, &mut report.results),
+            Form::Lines | Form::Zeros => self.write_lines(alloc, &mut report.messages),
         }
     }
 
-    fn write_lines(&self, alloc: Global, out: &mut Vec<u8>) -> Result<(), AllocError> {
-        let location = shown(alloc, &self.location)?;
+    // Appends its lines.
+    fn write_lines(&self, alloc: Global, out: &mut Vec<u8>) -> Result<(), AllocError>
+        ensures { OnOk result ((lines : List ℕ) × IsSaidText (said_of self.now) lines × (out.new.items ≡ out.old.items ++ lines)) }
+    {
+        let mut lines = self.lines(alloc)?;
         out.extend_from_slice(b"warning: ")?;
-        out.extend_from_slice(location.as_slice())?;
-        out.extend_from_slice(b": ")?;
+        out.append(&mut lines)?;
+        Ok(())
+    }
+
+    // What its lines say: the location, the texts that it is about, each with its location if that is another, what
+    // happens, and what to do.
+    fn lines(&self, alloc: Global) -> Result<Vec<u8>, AllocError> {
+        let location = shown(alloc, &self.location)?;
+        let mut lines = Vec::from_slice(alloc, location.as_slice())?;
+        lines.extend_from_slice(b": ")?;
         let title = self.topic.title(self.specs.len());
-        out.extend_from_slice(title.as_bytes())?;
-        out.extend_from_slice(b":\n")?;
+        lines.extend_from_slice(title.as_bytes())?;
+        lines.extend_from_slice(b":\n")?;
         for text in &self.specs {
-            out.extend_from_slice(b"    ")?;
-            write_in_message(out, text.bytes)?;
+            lines.extend_from_slice(b"    ")?;
+            write_in_message(&mut lines, text.bytes)?;
             let other = shown(alloc, &text.location)?;
             if other != location {
-                out.extend_from_slice(b" (")?;
-                out.extend_from_slice(other.as_slice())?;
-                out.push(b')')?;
+                lines.extend_from_slice(b" (")?;
+                lines.extend_from_slice(other.as_slice())?;
+                lines.push(b')')?;
             }
-            out.push(b'\n')?;
+            lines.push(b'\n')?;
         }
-        write_line(self.message.as_slice(), out)?;
-        write_line(self.advice.as_slice(), out)
+        write_line(self.message.as_slice(), &mut lines)?;
+        write_line(self.advice.as_slice(), &mut lines)?;
+        Ok(lines)
     }
 
+    // Appends its object, as a line.
     fn write_object(&self, alloc: Global, out: &mut Vec<u8>) -> Result<(), AllocError>
-        ensures { OnOk result (InJson Json (IsSaidLine (said_of self.now)) out.old.items out.new.items) }
+        ensures { OnOk result ((line : List ℕ) × IsSaidLine (said_of self.now) line × (out.new.items ≡ out.old.items ++ line)) }
     {
         let specs = warned_specs(alloc, self.specs.as_slice())?;
         let location = json::shown_location(alloc, &self.location)?;
@@ -252,111 +264,59 @@ pub fn say(out: &mut Vec<u8>, words: &str, name: &[u8]) -> Result<(), AllocError
     write_in_message(out, name)
 }
 
-/// Reports each refusal, good specs if the call is verbose, and then the warnings. Returns whether a text is refused, or there
-/// is a warning and the call is strict.
-pub fn report_check(
+/// Reports warnings, in order: behind the messages, or in JSON as results. Fails if memory runs out.
+pub fn report_warnings(
     alloc: Global,
-    call: &Call<'_>,
-    all: &[Checked<'_>],
+    warnings: &[Warning<'_>],
     report: &mut Report,
-) -> Result<bool, AllocError>
-    ensures { IfOk result (λ failed. ReportsCheck call.now report.old.form
-        report.old.messages.items report.new.messages.items failed all.now report.new.results.items) }
-{
-    report_specs(alloc, Command::Check, call.verbose, all, report)?;
-    let warned = report_warnings(alloc, call.warns, all, report)?;
-    let refused = has_bad(all);
-    Ok(refused | (call.is_strict & warned))
-}
-
-// Reports the warnings on checked texts, if they are asked for. Returns whether there is one.
-fn report_warnings(
-    alloc: Global,
-    warns: bool,
-    all: &[Checked<'_>],
-    report: &mut Report,
-) -> Result<bool, AllocError>
-    ensures { IfOk result (λ warned. WarnsIf warns report.old.form (map seen_of all.now) warned
-        report.old.messages.items report.new.messages.items report.old.results.items
-        report.new.results.items) }
-{
-    if !warns {
-        return Ok(false);
-    }
-    let mut written = Vec::new(alloc);
-    write_warnings(alloc, report.form, all, &BTreeMap::new(alloc), &mut written)?;
-    append(written.as_slice(), report)?;
-    Ok(!written.is_empty())
-}
-
-// Appends bytes to the messages, or in JSON to the results.
-fn append(bytes: &[u8], report: &mut Report) -> Result<(), AllocError>
-    ensures { OnOk result (AreAppended report.old.form bytes.now report.old.messages.items
-        report.new.messages.items report.old.results.items report.new.results.items) }
-{
-    match report.form {
-        Form::Json => report.results.extend_from_slice(bytes),
-        Form::Lines | Form::Zeros => report.messages.extend_from_slice(bytes),
-    }
-}
-
-/// Appends the warnings on texts. A fetch also takes what `beside` has at the key of its values.
-pub fn write_warnings_on<'a>(
-    alloc: Global,
-    form: Form,
-    texts: &[Text<'a>],
-    beside: &BTreeMap<&'a [u8], Beside<'a>>,
-    out: &mut Vec<u8>,
 ) -> Result<(), AllocError>
-    ensures { OnOk result ((seen : List Seen) × AllZip IsSeen (map given_of texts.now) seen
-        × InJson form (AreWarnings (asked_at beside.now) seen) out.old.items out.new.items) }
+    ensures { OnOk result (AddsSaid report.old.form (map said_of warnings.now) report.old report.new) }
 {
-    let all = check_all(alloc, texts)?;
-    write_warnings(alloc, form, all.as_slice(), beside, out)
+    for warning in warnings {
+        warning.report(alloc, report)?;
+    }
+    Ok(())
 }
 
-// Appends the warnings on checked texts.
-fn write_warnings<'a>(
+/// The warnings on checked texts, by their keys. A fetch also takes what `beside` has at the key of its values. In lines only
+/// the first 20 conflicts of a key are shown. Fails if memory runs out.
+pub fn warnings_of<'a>(
     alloc: Global,
     form: Form,
     all: &[Checked<'a>],
     beside: &BTreeMap<&'a [u8], Beside<'a>>,
-    out: &mut Vec<u8>,
-) -> Result<(), AllocError>
-    ensures { OnOk result (InJson form (AreWarnings (asked_at beside.now) (map seen_of all.now))
-        out.old.items out.new.items) }
+) -> Result<Vec<Warning<'a>>, AllocError>
+    ensures { form ≡ Json → IfOk result (λ found. AreWarnings (asked_at beside.now) (map seen_of all.now)
+        (map said_of found.items)) }
 {
     let nothing = Beside::nothing(alloc);
+    let mut found = Vec::new(alloc);
     for (key, group) in groups_of(alloc, all)? {
         let beside = beside.get(key).unwrap_or(&nothing);
-        write_group(alloc, form, &group, beside, out)?;
+        let mut more = warnings_in(alloc, form, &group, beside)?;
+        found.append(&mut more)?;
     }
-    Ok(())
+    Ok(found)
 }
 
-// Appends the warnings on a group. There are none if a text is refused, which may change all.
-fn write_group<'a>(
+// The warnings on a group. There are none if a text is refused, which may change all.
+fn warnings_in<'a>(
     alloc: Global,
     form: Form,
     group: &Group<'a>,
     beside: &Beside<'a>,
-    out: &mut Vec<u8>,
-) -> Result<(), AllocError>
+) -> Result<Vec<Warning<'a>>, AllocError>
     requires { SpecsMatchTexts group.now }
-    ensures { (seen : List Seen) → IsGroup seen group.now → OnOk result
-        (InJson form (AreLinesOf (asked_of beside.now) seen) out.old.items out.new.items) }
+    ensures { (seen : List Seen) → form ≡ Json → IsGroup seen group.now → IfOk result (λ found.
+        AreSaidOf (asked_of beside.now) seen (map said_of found.items)) }
 {
     if group.has_bad {
-        return Ok(());
+        return Ok(Vec::new(alloc));
     }
-    let found = warnings_on(alloc, form, group, beside)?;
-    for warning in &found {
-        warning.write(alloc, form, out)?;
-    }
-    Ok(())
+    warnings_on(alloc, form, group, beside)
 }
 
-// The warnings on a group.
+// The warnings on a group without refused texts.
 fn warnings_on<'a>(
     alloc: Global,
     form: Form,

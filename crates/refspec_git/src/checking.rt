@@ -1,113 +1,196 @@
 //! What `git refspec check` reports, and the refused values that stop the other commands.
 
-use crate::answer::{Machine, Stop, run_call};
-use crate::warnings::{text_of as text_of_value, write_warnings};
+use crate::answer::{Machine, Stop};
+use crate::stops::bad_setting;
+use crate::texts::{argument, utf8, value};
+use crate::warnings::Remotes;
 use gix_refspec::parsing::Operation;
-use refspec_io::call::{Command, Files, Form};
-use refspec_io::fault::Fault;
-use refspec_io::settings::{Setting, operation_of};
-use refspec_io::texts::{Location, Text};
-use refspec_plans::plan::Discard;
+use refspec_commands::checking::{Answer, Question, answer_to};
+use refspec_commands::specs::report_texts;
+use refspec_commands::warnings::report_warnings;
+use refspec_io::call::Form;
+use refspec_io::checked::{check_all, has_bad};
+use refspec_io::lacking::refuse_lacking;
+use refspec_io::report::Report;
+use refspec_io::settings::{Setting, has_lacking, operation_of};
+use refspec_io::texts::Text;
+use refspec_json::SpecKind;
 use refspec_request::arguments::Request;
 use refspec_request::choice::{Looks, Repository, looks_of};
 use refspec_request::output::Output;
 use refspec_request::refusal::Refusal;
-use refspec_request::settings::{name_and_variable, write_settings};
+use refspec_request::settings::name_and_variable;
 use std::alloc::{AllocError, Global};
 use std::collections::BTreeSet;
 
 /// Reports the values of the remotes in the arguments, and the specs; without arguments the values of all remotes.
-pub fn report_check<'a, M: Machine, D: Discard>(
+pub fn report_check<'a, M: Machine>(
     alloc: Global,
     machine: &M,
     request: &Request<'a>,
     repository: &Repository<'a, 'a>,
-    done: &mut D,
 ) -> Result<Output, Stop<'a>> {
-    let mut reported = Output::new(alloc);
     let chosen = chosen_of(alloc, request, repository)?;
-    let values = values_of(alloc, repository.settings, &chosen.remotes)?;
-    report_values(
-        alloc,
-        request,
-        chosen.specs.as_slice(),
-        values.as_slice(),
-        done,
-        &mut reported,
-    )?;
-    if reported.status == 0 && chosen.names_remotes() {
-        let all = report_refused_values(alloc, request, repository.settings, done)?;
-        if all.status != 0 {
-            reported.refuse(&Refusal::OtherRefused)?;
-        }
-    }
-    if chosen.remotes.is_none() {
-        for old in repository.old {
-            if let Some(refusal) = repository.old_remote(old.name.as_slice()) {
-                reported.refuse(&refusal)?;
-            }
-        }
-    }
-    if !request.no_warnings {
-        report_warnings(
-            alloc,
-            request,
-            repository,
-            &chosen,
-            values.as_slice(),
-            &mut reported,
-        )?;
-    }
-    let count = values.len().saturating_add(chosen.specs.len());
-    if count == 0 && reported.status == 0 {
-        reported
+    let found = found_in(alloc, request, repository, &chosen)?;
+    let status = found.status(request);
+    let mut report = found.report(alloc, request)?;
+    let count = found.values.len().saturating_add(chosen.specs.len());
+    if count == 0 && status == 0 {
+        report
             .messages
             .extend_from_slice(b"git refspec: there are no fetch or push values\n")?;
-    } else if is_silent(request, &reported) && machine.is_watched() {
+    } else if found.is_silent(request) && machine.is_watched() {
         let line = format!(in alloc; "git refspec: {count} checked, all good\n")?;
-        reported.messages.extend_from_slice(line.as_bytes())?;
+        report.messages.extend_from_slice(line.as_bytes())?;
     }
-    Ok(reported)
+    Ok(Output {
+        results: report.results,
+        messages: report.messages,
+        status,
+    })
 }
 
-// Reports the warnings on values and specs, and on the remotes that have these values.
-fn report_warnings<'a>(
+// What was found of values and specs.
+#[derive(Drop)]
+struct Found<'a> {
+    // The fetch and push values of the remotes.
+    values: Vec<Setting<'a>>,
+    // What `refspec check` answers on the specs and the values, and behind its warnings those on the remotes.
+    answer: Answer<'a>,
+    // Why Git refuses to use a remote for another reason.
+    refusals: Vec<Refusal<'a>>,
+}
+
+impl<'a> Found<'a> {
+    // The exit status: that of the refusals, and 1 if there is a warning and the request is strict.
+    fn status(&self, request: &Request<'_>) -> u8 {
+        let mut status = if has_lacking(self.values.as_slice()) {
+            1
+        } else if request.strict {
+            self.answer.strict_status()
+        } else {
+            self.answer.status()
+        };
+        for refusal in &self.refusals {
+            status = status.max(refusal.status());
+        }
+        status
+    }
+
+    // Adds why Git refuses to use a remote, besides what is found of the values.
+    fn add_refusals(
+        &mut self,
+        alloc: Global,
+        request: &Request<'a>,
+        repository: &Repository<'a, 'a>,
+        chosen: &Chosen<'a>,
+    ) -> Result<(), AllocError> {
+        let settings = repository.settings;
+        let is_good = !has_lacking(self.values.as_slice()) && self.answer.status() == 0;
+        if is_good
+            && chosen.names_remotes()
+            && refused_values(alloc, settings, request.form)?.is_some()
+        {
+            self.refusals.push(Refusal::OtherRefused)?;
+        }
+        if chosen.remotes.is_none() {
+            for old in repository.old {
+                if let Some(refusal) = repository.old_remote(old.name.as_slice()) {
+                    self.refusals.push(refusal)?;
+                }
+            }
+        }
+        if chosen.has_remotes() {
+            if let Some(refusal) = bad_setting(request.command, settings) {
+                self.refusals.push(refusal)?;
+            }
+        }
+        Ok(())
+    }
+
+    // The report in the form of a request. Values that are missing are first, as Git fails at these before it reads any other.
+    fn report(&self, alloc: Global, request: &Request<'_>) -> Result<Report, AllocError> {
+        let kind = if request.verbose {
+            Some(SpecKind::Good)
+        } else {
+            None
+        };
+        let mut report = Report::new(alloc, request.form);
+        refuse_lacking(alloc, self.values.as_slice(), &mut report)?;
+        report_texts(alloc, kind, self.answer.checked.as_slice(), &mut report)?;
+        for refusal in &self.refusals {
+            refusal.write(&mut report.messages)?;
+        }
+        report_warnings(alloc, self.answer.warnings.as_slice(), &mut report)?;
+        Ok(report)
+    }
+
+    // Whether nothing of it is reported in lines, as nothing is refused or warned of.
+    fn is_silent(&self, request: &Request<'_>) -> bool {
+        request.form == Form::Lines
+            && !request.verbose
+            && !has_lacking(self.values.as_slice())
+            && self.refusals.is_empty()
+            && self.answer.strict_status() == 0
+    }
+}
+
+// What is found of the values of remotes, and of the specs among the arguments.
+fn found_in<'a>(
     alloc: Global,
     request: &Request<'a>,
     repository: &Repository<'a, 'a>,
     chosen: &Chosen<'a>,
-    values: &[Setting<'a>],
-    reported: &mut Output,
-) -> Result<(), AllocError> {
+) -> Result<Found<'a>, AllocError> {
+    let settings = repository.settings;
+    let values = values_of(alloc, settings, &chosen.remotes)?;
+    let mut texts = specs_in(alloc, request, chosen)?;
+    let mut given = texts_of(alloc, values.as_slice())?;
+    texts.append(&mut given)?;
+    let remotes = Remotes::of(alloc, settings)?;
+    let question = Question {
+        texts: texts.as_slice(),
+        beside: remotes.beside(alloc, settings)?,
+        warns: !request.no_warnings,
+        form: request.form,
+    };
+    let mut answer = answer_to(alloc, &question)?;
+    if !request.no_warnings {
+        let mut more = remotes.warnings(alloc, &chosen.remotes)?;
+        answer.warnings.append(&mut more)?;
+    }
+    let mut found = Found {
+        values,
+        answer,
+        refusals: Vec::new(alloc),
+    };
+    found.add_refusals(alloc, request, repository, chosen)?;
+    Ok(found)
+}
+
+// The specs among the arguments, as texts.
+fn specs_in<'a>(
+    alloc: Global,
+    request: &Request<'_>,
+    chosen: &Chosen<'a>,
+) -> Result<Vec<Text<'a>>, AllocError> {
     let mut texts = Vec::with_capacity(alloc, chosen.specs.len())?;
     for (index, spec) in chosen.specs.iter().enumerate() {
-        texts.push(Text {
-            location: Location::Argument(index.saturating_add(1)),
-            operation: operation_for(request),
-            bytes: spec.as_bytes(),
-        })?;
+        let number = index.saturating_add(1);
+        texts.push(argument(number, operation_for(request), spec.as_bytes()))?;
     }
+    Ok(texts)
+}
+
+// The values of settings, as texts, in order.
+fn texts_of<'a>(alloc: Global, values: &[Setting<'a>]) -> Result<Vec<Text<'a>>, AllocError> {
+    let mut texts = Vec::with_capacity(alloc, values.len())?;
     for setting in values {
         if let (Some(operation), Some(bytes)) = (operation_of(setting.key), setting.value) {
-            texts.push(text_of_value(setting, operation, bytes))?;
+            texts.push(value(setting, operation, bytes))?;
         }
     }
-    let mut written = Vec::new(alloc);
-    write_warnings(
-        alloc,
-        request.form,
-        repository.settings,
-        &chosen.remotes,
-        texts.as_slice(),
-        &mut written,
-    )?;
-    if request.strict && !written.is_empty() {
-        reported.status = reported.status.max(1);
-    }
-    match request.form {
-        Form::Json => reported.results.extend_from_slice(written.as_slice()),
-        Form::Lines | Form::Zeros => reported.messages.extend_from_slice(written.as_slice()),
-    }
+    Ok(texts)
 }
 
 // The operation of the specs among the arguments.
@@ -119,11 +202,6 @@ fn operation_for(request: &Request<'_>) -> Operation {
     }
 }
 
-// Whether nothing was written, in the form for people.
-fn is_silent(request: &Request<'_>, reported: &Output) -> bool {
-    request.form == Form::Lines && reported.results.is_empty() && reported.messages.is_empty()
-}
-
 // The remotes and specs to check.
 #[derive(Drop)]
 struct Chosen<'a> {
@@ -133,6 +211,11 @@ struct Chosen<'a> {
 }
 
 impl Chosen<'_> {
+    // Whether remotes are checked, and not specs alone.
+    fn has_remotes(&self) -> bool {
+        self.remotes.is_none() || self.names_remotes()
+    }
+
     // Whether the arguments name remotes.
     fn names_remotes(&self) -> bool {
         match &self.remotes {
@@ -162,11 +245,11 @@ fn chosen_of<'a>(
         }
         remotes.insert(name)?;
     }
-    for (number, argument) in request.arguments.iter().enumerate() {
-        if is_remote(request, number, argument, repository)? {
-            remotes.insert(*argument)?;
+    for (number, name) in request.arguments.iter().enumerate() {
+        if is_remote(request, number, name, repository)? {
+            remotes.insert(*name)?;
         } else {
-            specs.push(text_of(argument)?)?;
+            specs.push(utf8(name)?)?;
         }
     }
     for name in &remotes {
@@ -205,14 +288,6 @@ fn is_remote<'a>(
     Err(Refusal::NoRemoteNoSpec(argument))
 }
 
-/// An argument as text. Refuses one that isn't UTF-8.
-pub fn text_of(argument: &[u8]) -> Result<&str, Refusal<'_>> {
-    match str::from_utf8(argument) {
-        Ok(text) => Ok(text),
-        Err(_) => Err(Refusal::NotUtf8(argument)),
-    }
-}
-
 // The fetch and push values of these remotes, or of all, in order.
 fn values_of<'a>(
     alloc: Global,
@@ -234,62 +309,20 @@ fn values_of<'a>(
     Ok(values)
 }
 
-/// Reports the refused values of all remotes. As long as there is one, Git refuses to use any remote.
-pub fn report_refused_values<D: Discard>(
+/// Reports the values of all remotes that are missing or refused, if there are any: then Git refuses to use any remote.
+pub fn refused_values(
     alloc: Global,
-    request: &Request<'_>,
     settings: &[Setting<'_>],
-    done: &mut D,
-) -> Result<Output, Fault> {
-    let mut reported = Output::new(alloc);
+    form: Form,
+) -> Result<Option<Report>, AllocError> {
     let values = values_of(alloc, settings, &None)?;
-    report_values(alloc, request, &[], values.as_slice(), done, &mut reported)?;
-    Ok(reported)
-}
-
-// Reports specs and values, as `refspec check` does. Settings without a value are first, as Git fails at these before
-// it reads any other.
-fn report_values<D: Discard>(
-    alloc: Global,
-    request: &Request<'_>,
-    specs: &[&str],
-    values: &[Setting<'_>],
-    done: &mut D,
-    reported: &mut Output,
-) -> Result<(), Fault> {
-    let mut missing = Vec::new(alloc);
-    let mut given = Vec::with_capacity(alloc, values.len())?;
-    for value in values {
-        if value.value.is_none() {
-            missing.push(*value)?;
-        } else {
-            given.push(*value)?;
-        }
+    let texts = texts_of(alloc, values.as_slice())?;
+    let checked = check_all(alloc, texts.as_slice())?;
+    if !has_lacking(values.as_slice()) && !has_bad(checked.as_slice()) {
+        return Ok(None);
     }
-    check(alloc, request, &[], missing.as_slice(), done, reported)?;
-    check(alloc, request, specs, given.as_slice(), done, reported)
-}
-
-// Reports specs and values, as `refspec check` does, in order.
-fn check<D: Discard>(
-    alloc: Global,
-    request: &Request<'_>,
-    specs: &[&str],
-    values: &[Setting<'_>],
-    done: &mut D,
-    reported: &mut Output,
-) -> Result<(), Fault> {
-    let mut beside = Vec::new(alloc);
-    write_settings(&mut beside, values)?;
-    let mut call = request.call_of(alloc, Command::Check);
-    call.operation = operation_for(request);
-    call.specs = Vec::from_slice(alloc, specs)?;
-    run_call(
-        alloc,
-        reported,
-        &call,
-        &Files::of_specs(beside.as_slice()),
-        b"",
-        done,
-    )
+    let mut report = Report::new(alloc, form);
+    refuse_lacking(alloc, values.as_slice(), &mut report)?;
+    report_texts(alloc, None, checked.as_slice(), &mut report)?;
+    Ok(Some(report))
 }

@@ -3,10 +3,17 @@
 #![tactic(auto)]
 
 pub mod answer;
+pub mod call;
 mod checking;
+mod configured;
 mod fetch;
+mod given;
 mod notes;
-mod objects;
+mod plan;
 mod sources;
+mod specs;
+mod stops;
+mod texts;
 mod tracking;
+mod unsure;
 mod warnings;

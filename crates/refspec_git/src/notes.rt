@@ -1,244 +1,192 @@
-//! Notes on single updates of a plan, of which the specs and the names of refs leave open whether Git makes them.
+//! Notes on a plan: the specs that match no ref of the remote, and what the specs and the names of refs leave open.
 
-use crate::objects::write_ref_note;
-use crate::sources::Names;
-use bstr::ByteSlice;
-use gix_refspec::match_group::SourceRef;
-use gix_refspec_plan::{Origin, Plan, Update, Verdict};
+ghost use Rattle.std.specs.Prelude.{OnOk};
+ghost use Rattle.refspec_io.specs.Shown.{Grows, KeepsReport};
+
+use crate::sources::{Names, is_needed, merged_spec, takes_some};
+use crate::unsure::Unsure;
+use bstr::BString;
+use refspec_fetch::answer::pruning_specs;
+use refspec_fetch::question::Question;
+use refspec_fetch::report::Style;
 use refspec_io::call::Form;
-use refspec_plans::plan::Discard;
-use refspec_request::arguments::Request;
-use refspec_request::output::Output;
+use refspec_io::counts::{reported_count, write_more};
+use refspec_io::json::text_of;
+use refspec_io::report::Report;
 use refspec_request::refusal::write_about;
+use serde_json::{Value, json};
 use std::alloc::{AllocError, Global};
 
-// How many notes of one kind are written, unless all are asked for.
-const SHOWN: usize = 20;
-
-/// What is unsure of a plan that is carried out.
-#[derive(Drop)]
-pub struct Unsure {
-    /// The object ids that are asked for, in lower case.
-    pub ids: Vec<String>,
-    /// The destinations below `refs/tags/` that are written from a ref of another name.
-    pub tags: Vec<Vec<u8>>,
-    /// The destinations of updates by other specs than those by which a fetch prunes.
-    pub beside: Vec<Vec<u8>>,
+// What a note is about.
+#[derive(Clone, Copy)]
+enum About<'a> {
+    Spec(&'a [u8]),
+    Ref(&'a [u8]),
 }
 
-/// Records what is unsure of a plan, and drops the plan.
-#[derive(Drop)]
-pub struct Recorder {
+// A kind of notes: its name in JSON, and its message.
+#[derive(Clone, Copy)]
+struct Kind {
+    name: &'static str,
+    message: &'static str,
+}
+
+const UNLISTED: Kind = Kind {
+    name: "unlisted",
+    message: "no ref of the remote has this id: if the remote refuses to send it, Git writes nothing",
+};
+
+const FOLLOWED: Kind = Kind {
+    name: "followed",
+    message: "the remote has this tag too: if Git follows it, it writes nothing; --no-tags prevents that",
+};
+
+const PRUNED: Kind = Kind {
+    name: "pruned",
+    message: "git fetch --prune deletes this ref, and then fails to write it",
+};
+
+/// Notes the specs that map refs, and match no ref of the remote, unless that stops the fetch. Fails if memory runs out.
+pub fn report_unmatched(
     alloc: Global,
-    unsure: Unsure,
-    has_failed: bool,
+    question: &Question<'_, '_, '_>,
+    names: &Names<'_>,
+    report: &mut Report,
+) -> Result<(), AllocError>
+    ensures { OnOk result (KeepsReport report.old report.new) }
+{
+    for one in &unmatched_in(alloc, question, names)? {
+        let kind = Kind {
+            name: "unmatched",
+            message: one.message,
+        };
+        write_note(alloc, kind, About::Spec(one.spec.as_bytes()), report)?;
+    }
+    Ok(())
 }
 
-impl Recorder {
-    /// One without a plan.
-    pub fn new(alloc: Global) -> Recorder {
-        Recorder {
-            alloc,
-            unsure: Unsure {
-                ids: Vec::new(alloc),
-                tags: Vec::new(alloc),
-                beside: Vec::new(alloc),
-            },
-            has_failed: false,
-        }
-    }
-
-    /// What was recorded. Fails if memory ran out.
-    pub fn unsure(self) -> Result<Unsure, AllocError> {
-        if self.has_failed {
-            return Err(AllocError);
-        }
-        Ok(self.unsure)
-    }
+// A spec that matches no ref of the remote.
+#[derive(Drop)]
+struct Unmatched {
+    // Its canonical text.
+    spec: BString,
+    message: &'static str,
 }
 
-impl Discard for Recorder {
-    fn discard(&mut self, plan: Plan<'_>) {
-        if self.unsure.add_plan(self.alloc, &plan).is_err() {
-            self.has_failed = true;
+// The specs that match no ref of the remote: of those that map refs the patterns and the negative ones, and without
+// given specs what the branch merges.
+fn unmatched_in(
+    alloc: Global,
+    question: &Question<'_, '_, '_>,
+    names: &Names<'_>,
+) -> Result<Vec<Unmatched>, AllocError> {
+    let mut unmatched = Vec::new(alloc);
+    for spec in pruning_specs(question) {
+        if !is_needed(spec) && !takes_some(alloc, spec, names)? {
+            unmatched.push(Unmatched {
+                spec: spec.to_bstring(alloc)?,
+                message: if spec.is_negative() {
+                    "this spec leaves out no ref of the remote"
+                } else {
+                    "this spec takes no ref of the remote"
+                },
+            })?;
         }
     }
-}
-
-impl Unsure {
-    // Adds what is unsure of a plan. Fails if memory runs out.
-    fn add_plan(&mut self, alloc: Global, plan: &Plan<'_>) -> Result<(), AllocError> {
-        if !plan.is_carried_out() {
-            return Ok(());
-        }
-        let has_given = plan.updates.iter().any(is_given);
-        for update in &plan.updates {
-            if update.verdict == Verdict::Written {
-                self.add_update(alloc, update)?;
-                // A fetch prunes by the specs of the call, or without any by the configured ones.
-                let prunes = match update.origin {
-                    Origin::Given(_) => true,
-                    Origin::Configured(_) => !has_given,
-                    Origin::Merge(_) | Origin::Default | Origin::AllTags => false,
-                };
-                if !prunes {
-                    self.add_beside(alloc, update)?;
+    if question.given.is_empty() {
+        for merge in question.merges {
+            if let Some(spec) = merged_spec(alloc, *merge)? {
+                if !takes_some(alloc, &spec, names)? {
+                    unmatched.push(Unmatched {
+                        spec: spec.to_bstring(alloc)?,
+                        message: "the current branch merges this ref, but the remote has no such ref",
+                    })?;
                 }
             }
         }
-        Ok(())
     }
-
-    // Adds the id of an update, and its destination if that is a tag of another name. Fails if memory runs out.
-    fn add_update(&mut self, alloc: Global, update: &Update<'_>) -> Result<(), AllocError> {
-        if let SourceRef::ObjectId(id) = &update.source {
-            self.ids.push(format!(in alloc; "{id}")?)?;
-        }
-        if let Some(destination) = &update.destination {
-            let name = destination.as_bytes();
-            if name.starts_with(b"refs/tags/") && !is_called(&update.source, name) {
-                self.tags.push(Vec::from_slice(alloc, name)?)?;
-            }
-        }
-        Ok(())
-    }
-
-    // Adds the destination of an update. Fails if memory runs out.
-    fn add_beside(&mut self, alloc: Global, update: &Update<'_>) -> Result<(), AllocError> {
-        if let Some(destination) = &update.destination {
-            self.beside
-                .push(Vec::from_slice(alloc, destination.as_bytes())?)?;
-        }
-        Ok(())
-    }
+    Ok(unmatched)
 }
 
-// Whether a spec of the call makes an update.
-fn is_given(update: &Update<'_>) -> bool {
-    matches!(update.origin, Origin::Given(_))
-}
-
-// Whether a source is the ref of this name.
-fn is_called(source: &SourceRef<'_>, name: &[u8]) -> bool {
-    match source {
-        SourceRef::FullName(full) => full.as_bstr().as_bytes() == name,
-        SourceRef::ObjectId(_) => false,
-    }
-}
-
-/// The notes on a plan.
-#[derive(Drop)]
-pub struct Notes {
+/// Notes what is unsure of a plan: of each kind all in JSON or in a style that shows all, else the first 20. Fails if
+/// memory runs out.
+pub fn report_unsure(
     alloc: Global,
-    form: Form,
-    // How many notes of one kind are written.
-    limit: usize,
-    // Lines of messages, or of objects in JSON.
-    text: Vec<u8>,
+    unsure: &Unsure<'_>,
+    style: &Style<'_>,
+    report: &mut Report,
+) -> Result<(), AllocError>
+    ensures { OnOk result (KeepsReport report.old report.new) }
+{
+    let mut ids = Vec::with_capacity(alloc, unsure.ids.len())?;
+    for id in &unsure.ids {
+        ids.push(id.as_bytes())?;
+    }
+    write_notes(alloc, UNLISTED, ids.as_slice(), style, report)?;
+    write_notes(alloc, FOLLOWED, unsure.tags.as_slice(), style, report)?;
+    write_notes(alloc, PRUNED, unsure.pruned.as_slice(), style, report)
 }
 
-impl Notes {
-    /// No notes. In lines `--all` lifts their limit, and JSON has none.
-    pub fn new(alloc: Global, request: &Request<'_>) -> Notes {
-        Notes {
-            alloc,
-            form: request.form,
-            limit: if request.all || request.form == Form::Json {
-                usize::MAX
-            } else {
-                SHOWN
-            },
-            text: Vec::new(alloc),
-        }
+// Writes notes of one kind, and how many more there are.
+fn write_notes(
+    alloc: Global,
+    kind: Kind,
+    names: &[&[u8]],
+    style: &Style<'_>,
+    report: &mut Report,
+) -> Result<(), AllocError>
+    ensures { OnOk result (KeepsReport report.old report.new) }
+{
+    let (shown, more) = names.split_at(reported_count(report.form, style.all, names.len()));
+    for name in shown {
+        write_note(alloc, kind, About::Ref(name), report)?;
     }
+    write_more("git refspec: note: ", more.len(), &mut report.messages)
+}
 
-    /// Adds a note for each of these ids that no line of `git ls-remote` begins with. Fails if memory runs out.
-    pub fn add_unlisted(&mut self, ids: &[String], lines: &[u8]) -> Result<(), AllocError> {
-        if ids.is_empty() {
-            return Ok(());
-        }
-        let mut listed = Vec::new(self.alloc);
-        for line in lines.split(|byte| *byte == b'\n') {
-            if let Some((id, _)) = line.split_once_str(b"\t") {
-                listed.push(id)?;
-            }
-        }
-        listed.sort()?;
-        let mut unlisted = Vec::new(self.alloc);
-        for id in ids {
-            if listed.binary_search(&id.as_bytes()).is_err() {
-                unlisted.push(id.as_bytes())?;
-            }
-        }
-        self.add(
-            "unlisted",
-            unlisted.as_slice(),
-            "no ref of the remote has this id: if the remote refuses to send it, Git writes nothing",
-        )
+// Writes a note: in JSON as an object among the results, else as a line among the messages.
+fn write_note(
+    alloc: Global,
+    kind: Kind,
+    about: About<'_>,
+    report: &mut Report,
+) -> Result<(), AllocError>
+    ensures { OnOk result (KeepsReport report.old report.new) }
+{
+    match report.form {
+        Form::Json => write_object(alloc, kind, about, &mut report.results),
+        Form::Lines | Form::Zeros => write_line(kind, about, &mut report.messages),
     }
+}
 
-    /// Adds a note for each of these destinations that is a tag of the remote too. Fails if memory runs out.
-    pub fn add_tags(&mut self, tags: &[Vec<u8>], names: &Names<'_>) -> Result<(), AllocError> {
-        let mut found = Vec::new(self.alloc);
-        for tag in tags {
-            if names.has(tag.as_slice()) {
-                found.push(tag.as_slice())?;
-            }
+// Appends the object of a note, as a line.
+fn write_object(
+    alloc: Global,
+    kind: Kind,
+    about: About<'_>,
+    out: &mut Vec<u8>,
+) -> Result<(), AllocError>
+    ensures { OnOk result (Grows out.old.items out.new.items) }
+{
+    let (name, message) = (kind.name, kind.message);
+    let object: Value = match about {
+        About::Spec(text) => {
+            let spec = text_of(alloc, text)?;
+            json!(in alloc; {"kind": name, "message": message, "spec": spec.as_str()})?
         }
-        self.add(
-            "followed",
-            found.as_slice(),
-            "the remote has this tag too: if Git follows it, it writes nothing; --no-tags prevents that",
-        )
-    }
+        About::Ref(text) => {
+            let text = text_of(alloc, text)?;
+            json!(in alloc; {"kind": name, "message": message, "name": text.as_str()})?
+        }
+    };
+    out.extend_from_slice(object.to_vec(alloc)?.as_slice())?;
+    Ok(out.push(b'\n')?)
+}
 
-    /// Adds a note for each of these destinations that is among stale refs, each of which is followed by a zero byte. Fails if
-    /// memory runs out.
-    pub fn add_pruned(&mut self, destinations: &[Vec<u8>], stale: &[u8]) -> Result<(), AllocError> {
-        let mut sorted = Vec::new(self.alloc);
-        for name in stale.split(|byte| *byte == 0) {
-            sorted.push(name)?;
-        }
-        sorted.sort()?;
-        let mut found = Vec::new(self.alloc);
-        for name in destinations {
-            if sorted.binary_search(&name.as_slice()).is_ok() {
-                found.push(name.as_slice())?;
-            }
-        }
-        self.add(
-            "pruned",
-            found.as_slice(),
-            "git fetch --prune deletes this ref, and then fails to write it",
-        )
-    }
-
-    // Adds a note of one kind on each of these names.
-    fn add(&mut self, kind: &str, names: &[&[u8]], message: &str) -> Result<(), AllocError> {
-        for (index, name) in names.iter().enumerate() {
-            if index == self.limit {
-                let more = names.len() - index;
-                let line = format!(in self.alloc;
-                    "git refspec: note: {more} more; `--all` lists them\n"
-                )?;
-                return self.text.extend_from_slice(line.as_bytes());
-            }
-            if self.form == Form::Json {
-                write_ref_note(self.alloc, &mut self.text, kind, name, message)?;
-            } else {
-                write_about(&mut self.text, "git refspec: note: ", name, ": ")?;
-                self.text.extend_from_slice(message.as_bytes())?;
-                self.text.push(b'\n')?;
-            }
-        }
-        Ok(())
-    }
-
-    /// Writes the notes: in JSON among the results, else among the messages. Fails if memory runs out.
-    pub fn write(&self, reported: &mut Output) -> Result<(), AllocError> {
-        match self.form {
-            Form::Json => reported.results.extend_from_slice(self.text.as_slice()),
-            Form::Lines | Form::Zeros => reported.messages.extend_from_slice(self.text.as_slice()),
-        }
-    }
+// Appends the line of a note.
+fn write_line(kind: Kind, about: About<'_>, out: &mut Vec<u8>) -> Result<(), AllocError> {
+    let (About::Spec(text) | About::Ref(text)) = about;
+    write_about(out, "git refspec: note: ", text, ": ")?;
+    out.extend_from_slice(kind.message.as_bytes())?;
+    Ok(out.push(b'\n')?)
 }

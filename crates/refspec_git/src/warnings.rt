@@ -1,5 +1,6 @@
 //! The warnings of `git refspec check`: those of `refspec check`, and those on remotes and their other settings.
 
+use crate::texts::{location_of, value};
 use bstr::BStr;
 use gix_refspec::match_group::{MapName, SourceRef};
 use gix_refspec::parsing::{Error, Operation};
@@ -7,39 +8,56 @@ use gix_refspec::{RefSpecRef, parse};
 use gix_refspec_match::exclusions::Exclusions;
 use gix_refspec_text::side::{joined, split_at_first_star};
 use refspec_commands::warnings::beside::{Beside, Tags};
-use refspec_commands::warnings::{Topic, Warning, say, write_warnings_on};
-use refspec_io::call::Form;
+use refspec_commands::warnings::{Topic, Warning, say};
 use refspec_io::settings::Setting;
-use refspec_io::texts::{Location, Text};
+use refspec_io::texts::Text;
 use refspec_request::settings::{is_true, name_and_variable};
 use std::alloc::{AllocError, Global};
 use std::collections::{BTreeMap, BTreeSet};
 
-/// Appends the warnings on the settings of these remotes, or of all, and on specs. `texts` has their fetch and push values.
-pub fn write_warnings<'a>(
-    alloc: Global,
-    form: Form,
-    settings: &[Setting<'a>],
-    chosen: &Option<BTreeSet<&'a [u8]>>,
-    texts: &[Text<'a>],
-    out: &mut Vec<u8>,
-) -> Result<(), AllocError> {
-    let remotes = remotes_in(alloc, settings)?;
-    let mut pruning = Pruning::of(settings);
-    let beside = beside_values(alloc, settings, remotes.as_slice(), &pruning)?;
-    write_warnings_on(alloc, form, texts, &beside, out)?;
-    let mut found = Vec::new(alloc);
-    for remote in &remotes {
-        if is_chosen(chosen, remote) {
-            add_pruned(alloc, &mut pruning, remote, &mut found)?;
-            add_without_values(alloc, remote, &mut found)?;
+/// The remotes of a configuration.
+#[derive(Drop)]
+pub struct Remotes<'a> {
+    // Sorted by their names.
+    list: Vec<Remote<'a>>,
+    pruning: Pruning<'a>,
+}
+
+impl<'a> Remotes<'a> {
+    /// The remotes of these settings.
+    pub fn of(alloc: Global, settings: &[Setting<'a>]) -> Result<Remotes<'a>, AllocError> {
+        Ok(Remotes {
+            list: remotes_in(alloc, settings)?,
+            pruning: Pruning::of(settings),
+        })
+    }
+
+    /// What fetches take besides the values of the remotes, by the keys of these.
+    pub fn beside(
+        &self,
+        alloc: Global,
+        settings: &[Setting<'a>],
+    ) -> Result<BTreeMap<&'a [u8], Beside<'a>>, AllocError> {
+        beside_values(alloc, settings, self.list.as_slice(), &self.pruning)
+    }
+
+    /// The warnings on the settings of these remotes, or of all.
+    pub fn warnings(
+        &self,
+        alloc: Global,
+        chosen: &Option<BTreeSet<&'a [u8]>>,
+    ) -> Result<Vec<Warning<'a>>, AllocError> {
+        let mut pruning = self.pruning;
+        let mut found = Vec::new(alloc);
+        for remote in &self.list {
+            if is_chosen(chosen, remote) {
+                add_pruned(alloc, &mut pruning, remote, &mut found)?;
+                add_without_values(alloc, remote, &mut found)?;
+            }
         }
+        add_shared(alloc, self.list.as_slice(), chosen, &mut found)?;
+        Ok(found)
     }
-    add_shared(alloc, remotes.as_slice(), chosen, &mut found)?;
-    for warning in &found {
-        warning.write(alloc, form, out)?;
-    }
-    Ok(())
 }
 
 fn is_chosen<'a>(chosen: &Option<BTreeSet<&'a [u8]>>, remote: &Remote<'a>) -> bool {
@@ -190,27 +208,11 @@ impl<'a> Remote<'a> {
             Err(_) => Ok(()),
             Ok(spec) => Ok(
                 self.values.push(Value {
-                    text: text_of(setting, Operation::Fetch, bytes),
+                    text: value(setting, Operation::Fetch, bytes),
                     spec,
                 })?,
             ),
         }
-    }
-}
-
-/// The text of a value of a setting.
-pub fn text_of<'a>(setting: &Setting<'a>, operation: Operation, bytes: &'a [u8]) -> Text<'a> {
-    Text {
-        location: location_of(setting),
-        operation,
-        bytes,
-    }
-}
-
-fn location_of<'a>(setting: &Setting<'a>) -> Location<'a> {
-    Location::Setting {
-        origin: setting.origin,
-        key: setting.key,
     }
 }
 
@@ -374,6 +376,16 @@ fn add_pruned<'a>(
             }
         }
     }
+    add_pruned_tag(alloc, pruning, remote, found)
+}
+
+// Adds a warning on the tags that pruning deletes by a setting on tags.
+fn add_pruned_tag<'a>(
+    alloc: Global,
+    pruning: &mut Pruning<'a>,
+    remote: &Remote<'a>,
+    found: &mut Vec<Warning<'a>>,
+) -> Result<(), AllocError> {
     let tags = match remote.prune_tags {
         Some(tags) => Some(tags),
         None => pruning.take_tags(),

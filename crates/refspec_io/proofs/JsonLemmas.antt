@@ -240,13 +240,6 @@ AddsObjects-one {X} f Reports x line old new same is write =
     subst (λ (h : Form). AddsObjects h Reports (x ∷ []) old new) (sym same)
     (line, (line, [], is, refl, sym (append-nil line)), write)
 
--- one element without an object
-pub AddsObjects-none : {X : Type 0} (f : Form) (Reports : X → List ℕ → Type 0) (x : X) (old new : List ℕ) → Reports x []
-    → new ≡ old → AddsObjects f Reports (x ∷ []) old new
-AddsObjects-none form.Lines Reports x old new is kept = kept
-AddsObjects-none form.Zeros Reports x old new is kept = kept
-AddsObjects-none form.Json Reports x old new is kept = ([], ([], [], is, refl, refl), kept ∙ sym (append-nil old))
-
 -- one element whose object is that of a refusal
 pub AddsObjects-refusal : {X : Type 0} (f : Form) (Reports : X → List ℕ → Type 0) (x : X) (t : Text) (e : Error)
     (old new : List ℕ) → ((line : List ℕ) → IsRefusedLine t e line → Reports x line) → AddsRefusal f t e old new

@@ -82,17 +82,6 @@ pub ReportsRefusals-all : (f : Form) (xs : List Checked) (i : ℕ) (old new : Li
 ReportsRefusals-all f xs i old new long so_far = subst (λ (l : List Checked). ReportsRefusals f l old new)
     (take_all i xs long) so_far
 
--- one refused text, and one spec, on which there is no message
-pub ReportsRefusals-bad : (f : Form) (c : Checked) (text : Text) (error : Error) (old new : List ℕ)
-    → c ≡ checked.Bad text error → ReportsRefusal f text error old new → ReportsRefusals f (c ∷ []) old new
-ReportsRefusals-bad f c text error old new is reported = subst (λ (x : Checked). ReportsRefusals f (x ∷ []) old new)
-    (sym is) (new, reported, refl)
-
-pub ReportsRefusals-good : (f : Form) (c : Checked) (text : Text) (spec : RefSpecRef) (old new : List ℕ)
-    → c ≡ checked.Good text spec → new ≡ old → ReportsRefusals f (c ∷ []) old new
-ReportsRefusals-good f c text spec old new is kept = subst (λ (x : Checked). ReportsRefusals f (x ∷ []) old new)
-    (sym is) kept
-
 -- the lines on the checked texts are those on the texts
 reported_lines : (f : Form) → ((t : Text) (e : Error) (old new : List ℕ) → ReportsRefusal f t e old new
     → WritesRefusal t e old new) → (texts : List Text) (all : List Checked) (old new : List ℕ)

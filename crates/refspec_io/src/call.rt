@@ -100,17 +100,6 @@ pub struct Files<'a> {
     pub local: &'a [u8],
 }
 
-impl<'a> Files<'a> {
-    /// A file of specs, and no other.
-    pub fn of_specs(specs: &'a [u8]) -> Files<'a> {
-        Files {
-            specs,
-            configured: b"",
-            local: b"",
-        }
-    }
-}
-
 /// A call, and what it reads.
 #[derive(Clone, Copy, Debug)]
 pub struct Task<'a> {

@@ -1,4 +1,6 @@
 mod BooleanLemmas
+mod ChoiceLemmas
+mod FetchLemmas
 mod RefusalLemmas
 mod RemoteLemmas
 mod SettingLemmas

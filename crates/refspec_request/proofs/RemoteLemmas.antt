@@ -1,18 +1,21 @@
 -- Settings of remotes among others.
-use Rattle.std.proofs.Common.{◌≡◌, ◌≢◌, ◌⊎◌, inl, inr, ◌↔◌, ℕ, ◌+◌, ◌<◌, ◌≤◌, Bool, Bor, IsTrue, true, false, not}
+use Rattle.std.proofs.Common.{◌≡◌, ◌≢◌, ◌⊎◌, inl, inr, ◌↔◌, ℕ, ◌+◌, ◌<◌, ◌≤◌, Bool, Bor, IsTrue, not}
 use Rattle.std.proofs.Common.{List, None, Some, Option, MatchOption, option_map, codes, length, take, get_or, sym, ap}
-use Rattle.std.proofs.Common.{◌∙◌, refl, subst, arith, take_all}
-use Rattle.std.proofs.lemmas.Bool.{cases_Bool, cases_lt, false≢true}
+use Rattle.std.proofs.Common.{◌∙◌, refl, subst, arith, take_all, min, [], ◌∷◌, ◌++◌, length-append}
+use Rattle.std.proofs.lemmas.Bool.{cases_Bool, cases_lt}
 use Rattle.std.proofs.lemmas.Bool.Decides.{not_from_Decides}
-use Rattle.std.proofs.lemmas.List.{get_or-take, length-take-le, get_or_default}
+use Rattle.std.proofs.lemmas.List.{get_or-take, length-take-le, get_or_default, take_more, append-nil}
 use Rattle.std.proofs.lemmas.Slice.Eq.{bytes_eq-Decides}
-use Rattle.std.specs.List.{Any}
+use Rattle.std.proofs.Math.Nat.{le-min, min-eq_left, min_comm}
+use Rattle.std.proofs.lemmas.Grind.{flat_map-append}
+use Rattle.std.specs.List.{Any, flat_map}
 use Rattle.std.specs.Str.{bytes_eq}
 use Rattle.refspec_io.specs.declared.settings.Setting.{Setting}
 use Rattle.refspec_request.specs.declared.remotes.OldRemote.{OldRemote}
 use Rattle.refspec_request.specs.Settings.{IsKey}
 use Rattle.refspec_request.specs.Remotes.{IsConfigured, IsDefault, IsLocated, IsOfOther, IsOfRemote, IsOnly}
-use Rattle.refspec_request.specs.Remotes.{IsInFile, IsOnlyOrOrigin, remote_of_branch}
+use Rattle.refspec_request.specs.Remotes.{IsGroup, IsInFile, IsOnlyOrOrigin, listed_in, members_of, members_text}
+use Rattle.refspec_request.specs.Remotes.{remote_of_branch}
 
 -- an element at an index
 pub Any-at : {X : Type 0} (P : X → Type 0) (xs : List X) (i : ℕ) (d : X) → i < length xs → P (get_or xs i d) → Any P xs
@@ -115,3 +118,57 @@ pub none_in_files : (xs : List OldRemote) (i : ℕ) (name : List ℕ) → length
     → ¬ (IsInFile xs name)
 none_in_files xs i name past none some = none (subst (λ (l : List OldRemote). IsInFile l name)
     (sym (take_all i xs past)) some)
+
+-- the remotes of a group with one more setting
+pub members_next : (group : List ℕ) (xs : List Setting) (i : ℕ) (d : Setting) → i < length xs
+    → members_of group (take (i + 1) xs)
+    ≡ members_of group (take i xs) ++ listed_in (members_text group (get_or xs i d))
+members_next group xs i d below =
+    let f : Setting → List (List ℕ) = λ s. listed_in (members_text group s) in
+    ap (λ l. flat_map f l) (take_more xs i d below)
+    ∙ (flat_map-append f (take i xs) (get_or xs i d ∷ [])
+    ∙ ap (λ l. flat_map f (take i xs) ++ l) (append-nil (f (get_or xs i d))))
+
+-- how many they are
+members_more : (group : List ℕ) (xs : List Setting) (i : ℕ) (d : Setting) → i < length xs
+    → length (members_of group (take (i + 1) xs))
+    ≡ length (members_of group (take i xs)) + length (listed_in (members_text group (get_or xs i d)))
+members_more group xs i d below = ap length (members_next group xs i d below)
+    ∙ length-append (members_of group (take i xs)) (listed_in (members_text group (get_or xs i d)))
+
+-- a count that may stop at a bound, or several
+abbrev pub IsCounted : ℕ → ℕ → Type 0
+IsCounted count long = (count ≡ long) ⊎ ((1 < count) × (1 < long))
+
+counted_more : (count long more new most : ℕ) → IsCounted count long → 1 < most → new ≡ min (count + more) most
+    → IsCounted new (long + more)
+counted_more count long more new most (inl same) high is = elim (cases_lt (count + more) most) [
+  | inl less ↦ let e : min (count + more) most ≡ count + more = min-eq_left (omega arith) in inl (omega arith)
+  | inr above ↦
+      let e : min (count + more) most ≡ most = min_comm (count + more) most ∙ min-eq_left above in
+      inr (omega arith, omega arith)
+]
+counted_more count long more new most (inr several) high is =
+    let low : 1 < min (count + more) most = le-min (omega arith) (omega arith) in
+    inr (omega arith, omega arith)
+
+-- the remotes of a group with one more setting
+pub group_more : (group : List ℕ) (xs : List Setting) (i : ℕ) (d : Setting) (count more new most : ℕ) → i < length xs
+    → IsCounted count (length (members_of group (take i xs))) → 1 < most
+    → more ≡ length (listed_in (members_text group (get_or xs i d))) → new ≡ min (count + more) most
+    → IsCounted new (length (members_of group (take (i + 1) xs)))
+group_more group xs i d count more new most below so_far high is_more is =
+    subst (λ n. IsCounted new n)
+    (ap (λ n. length (members_of group (take i xs)) + n) is_more ∙ sym (members_more group xs i d below))
+    (counted_more count (length (members_of group (take i xs))) more new most so_far high is)
+
+-- the count tells whether there are several
+several_of : (count long : ℕ) → IsCounted count long → (1 < count) ↔ (1 < long)
+several_of count long (inl same) = ((λ more. omega arith), λ more. omega arith)
+several_of count long (inr several) = ((λ more. several.1), λ more. several.0)
+
+-- the same for the remotes of a group
+pub group_counted : (group : List ℕ) (xs : List Setting) (i count : ℕ) → length xs ≤ i
+    → IsCounted count (length (members_of group (take i xs))) → (1 < count) ↔ IsGroup xs group
+group_counted group xs i count past counted = several_of count (length (members_of group xs))
+    (subst (λ (l : List Setting). IsCounted count (length (members_of group l))) (take_all i xs past) counted)

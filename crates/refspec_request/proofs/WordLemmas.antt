@@ -1,6 +1,6 @@
 -- Texts that begin with, end with or contain another, and hosts behind colons.
-use Rattle.std.proofs.Common.{◌≡◌, ◌⊎◌, inl, inr, ◌↔◌, ℕ, ◌+◌, ◌-◌, ◌≤◌, Bool, IsTrue, true, false, List, [], ◌∷◌}
-use Rattle.std.proofs.Common.{◌++◌, length, take, drop, sym, ap, ◌∙◌, refl, subst, arith, nat_eq, length-append}
+use Rattle.std.proofs.Common.{◌≡◌, inl, inr, ◌↔◌, ℕ, ◌+◌, ◌-◌, ◌≤◌, Bool, IsTrue, false, List, [], ◌∷◌}
+use Rattle.std.proofs.Common.{◌++◌, length, take, drop, sym, ap, ◌∙◌, subst, arith, nat_eq, length-append}
 use Rattle.std.proofs.Common.{take-append-drop, codes}
 use Rattle.std.proofs.lemmas.Bool.{false≢true}
 use Rattle.std.proofs.lemmas.Bool.Decides.{Decides-eqb}
@@ -9,9 +9,10 @@ use Rattle.std.proofs.lemmas.Slice.Eq.{starts_is, ends_is}
 use Rattle.std.specs.Cmp.Lexicographic.{pointwise}
 use Rattle.bstr.specs.Text.{Contains}
 use Rattle.gix_refspec_text.specs.Texts.Words.{BeginsWith, ContainsText, EndsWith, Lacks}
-use Rattle.gix_refspec_text.proofs.lemmas.lists.LacksLemmas.{first_once}
+use Rattle.gix_refspec_text.proofs.lemmas.lists.LacksLemmas.{Lacks-here, first_once}
 use Rattle.gix_refspec_text.proofs.lemmas.texts.TextLemmas.{Lacks-ContainsText}
-use Rattle.refspec_request.specs.Words.{HasHost}
+use Rattle.refspec_request.specs.declared.choice.Looks.TheVariants as looks
+use Rattle.refspec_request.specs.Words.{EndsAsSpec, HasHost, LooksLike}
 
 -- a test of the start
 pub begins_tested : (w x : List ℕ) (test : Bool) → test ≡ pointwise nat_eq w (take (length w) x) → IsTrue test
@@ -62,3 +63,40 @@ word_tested w x test tested = (
       omega (arith, ap length has.here, length-append has.before (w ++ has.after), length-append w has.after) in
       tested.1 (length has.before, record { fits = long; reads = at_reads 0 x w (length has.before) has.after rest }),
 )
+
+-- a text without a colon doesn't end as a spec
+ends_with_a_colon : (x : List ℕ) → Lacks 58 x → ¬ (EndsAsSpec x)
+ends_with_a_colon x lacks (inl has) =
+    Lacks-here 58 has.before (codes "refs/" ++ has.after) (subst (Lacks 58) has.here lacks)
+ends_with_a_colon x lacks (inr ends) = Lacks-here 58 ends.before [] (subst (Lacks 58) ends.here lacks)
+
+-- what looks like a URL doesn't look like a spec
+pub url_no_spec : (x : List ℕ) → LooksLike x looks.Url → ¬ (LooksLike x looks.Spec)
+url_no_spec x (none, url) (inl certain) = none certain
+url_no_spec x (none, url) (inr (no_url, ends)) = no_url url
+
+-- nor does what may be either
+pub doubt_no_spec : (x : List ℕ) → LooksLike x looks.Either → ¬ (LooksLike x looks.Spec)
+doubt_no_spec x (none, no_url, no_end, colon) (inl certain) = none certain
+doubt_no_spec x (none, no_url, no_end, colon) (inr (other, ends)) = no_end ends
+
+-- nor does a plain word
+pub plain_no_spec : (x : List ℕ) → LooksLike x looks.Plain → ¬ (LooksLike x looks.Spec)
+plain_no_spec x (none, no_url, lacks) (inl certain) = none certain
+plain_no_spec x (none, no_url, lacks) (inr (other, ends)) = ends_with_a_colon x lacks ends
+
+-- what looks like a spec is no plain word
+pub spec_no_plain : (x : List ℕ) → LooksLike x looks.Spec → ¬ (LooksLike x looks.Plain)
+spec_no_plain x spec plain = plain_no_spec x plain spec
+
+-- nor is a URL
+pub url_no_plain : (x : List ℕ) → LooksLike x looks.Url → ¬ (LooksLike x looks.Plain)
+url_no_plain x (none, url) (other, no_url, lacks) = no_url url
+
+-- nor is what may be either
+pub doubt_no_plain : (x : List ℕ) → LooksLike x looks.Either → ¬ (LooksLike x looks.Plain)
+doubt_no_plain x (none, no_url, no_end, colon) (other, no_url_, lacks) = Lacks-ContainsText 58 x lacks colon
+
+-- a test that rules something out
+pub no_test : (P : Type 0) → ¬ P → IsTrue false ↔ P
+no_test P none = ((λ so. absurd (false≢true so)), λ p. absurd (none p))

@@ -1,4 +1,5 @@
 pub mod BooleanFacts
+pub mod NeededFacts
 pub mod SettingFacts
 pub mod RemoteFacts
 pub mod WordFacts

@@ -1,5 +1,7 @@
 pub mod Booleans
 pub mod Calls
+pub mod Choices
+pub mod Needed
 pub mod Refusals
 pub mod Remotes
 pub mod Settings

@@ -1,8 +1,14 @@
 -- The remotes of a configuration, by git-config(1) and git-fetch(1).
-use Rattle.std.specs.Prelude.{◌≡◌, ◌≢◌, ◌⊎◌, ℕ, ◌==◌, ◌||◌, cond, Bool, List, [], ◌++◌, Option, None, Some}
-use Rattle.std.specs.Prelude.{unwrap_or, codes}
-use Rattle.std.specs.List.{Any}
+use Rattle.std.specs.Prelude.{◌≡◌, ◌≢◌, ◌⊎◌, ℕ, ◌<◌, ◌==◌, ◌||◌, not, cond, Bool, List, [], ◌∷◌, ◌++◌, Option, None}
+use Rattle.std.specs.Prelude.{Some, MatchOption, unwrap_or, filter, length, codes}
+use Rattle.std.specs.BTreeMap.{BTreeMap, get_by}
+use Rattle.std.specs.Borrow.{Bor}
+use Rattle.std.specs.Cmp.Lexicographic.{slice_cmp}
+use Rattle.std.specs.Global.{Vec}
+use Rattle.std.specs.List.{Any, flat_map, slice_split}
+use Rattle.std.specs.Ordering.{nat_cmp}
 use Rattle.std.specs.Str.{bytes_eq}
+use Rattle.std.specs.String.{string_bytes}
 use Rattle.gix_refspec_text.specs.Texts.Words.{BeginsWith}
 use Rattle.refspec_io.specs.declared.settings.Setting.{Setting}
 use Rattle.refspec_request.specs.declared.remotes.OldRemote.{OldRemote}
@@ -16,9 +22,24 @@ IsOfRemote name s = IsKeyWhere (codes "remote") (λ other variable. other ≡ na
 abbrev pub IsConfigured : List Setting → List ℕ → Type 0
 IsConfigured settings name = Any (IsOfRemote name) settings
 
+-- each name of a remote has its values of remote.<name>.fetch, in order, and no other name has any
+abbrev pub AreFetchValues : List Setting → BTreeMap (Bor (List ℕ)) (Vec Setting) → Type 0
+AreFetchValues settings remotes = (name : List ℕ) → MatchOption (get_by (λ k. slice_cmp nat_cmp name k.now) remotes)
+    (¬ (IsConfigured settings name))
+    (λ values. IsConfigured settings name
+    × (values.items ≡ settings_with (joined_key (codes "remote") name (codes "fetch")) settings))
+
 -- the setting is one of a remote of another name
 abbrev pub IsOfOther : List ℕ → Setting → Type 0
 IsOfOther name s = IsKeyWhere (codes "remote") (λ other variable. other ≢ name) s.key.now
+
+-- the key is url.<base>.insteadOf
+abbrev pub IsInsteadOf : List ℕ → Type 0
+IsInsteadOf key = IsKeyWhere (codes "url") (λ base variable. variable ≡ codes "insteadof") key
+
+-- the setting is one of these, and the URL begins with its value, as each URL does with an empty one
+abbrev pub Rewrites : List ℕ → Setting → Type 0
+Rewrites url s = IsInsteadOf s.key.now × MatchOption (value_in s) ⊥ (λ start. BeginsWith start url)
 
 -- the setting is one of a remote whose name begins with a slash, which Git ignores
 abbrev pub IsIgnored : Setting → Type 0
@@ -38,6 +59,18 @@ is_between b = (b == 32) || (b == 9) || (b == 10)
 abbrev pub members_text : List ℕ → Setting → List ℕ
 members_text group s = cond (bytes_eq s.key.now (codes "remotes." ++ group)) (unwrap_or (value_in s) []) []
 
+-- the remotes that such a value lists
+abbrev pub listed_in : List ℕ → List (List ℕ)
+listed_in text = filter (λ word. not (length word == 0)) (slice_split is_between text)
+
+-- the remotes of a group, in order
+abbrev pub members_of : List ℕ → List Setting → List (List ℕ)
+members_of group settings = flat_map (λ s. listed_in (members_text group s)) settings
+
+-- the group has several remotes
+abbrev pub IsGroup : List Setting → List ℕ → Type 0
+IsGroup settings group = 1 < length (members_of group settings)
+
 -- the only remote of a configuration
 abbrev pub IsOnly : List Setting → List ℕ → Type 0
 IsOnly settings name = IsConfigured settings name × ((other : List ℕ) → IsConfigured settings other → other ≡ name)
@@ -51,6 +84,12 @@ IsOnlyOrOrigin settings name =
 abbrev pub IsInFile : List OldRemote → List ℕ → Type 0
 IsInFile files name = Any (λ file. file.name.items ≡ name) files
 
+-- the folder of the first such file
+abbrev pub folder_of : List ℕ → List OldRemote → Option (List ℕ)
+folder_of name [] = None
+folder_of name (file ∷ files) =
+    cond (bytes_eq file.name.items name) (Some (string_bytes file.folder)) (folder_of name files)
+
 -- Git knows where the remote is
 abbrev pub IsLocated : List Setting → List OldRemote → List ℕ → Type 0
 IsLocated settings files name = IsInFile files name ⊎ Any (SaysWhere name) settings
@@ -61,8 +100,7 @@ remote_of_branch settings branch = value_of_last (settings_with (joined_key (cod
     settings)
 
 -- the remote that `git fetch` without arguments takes (git-fetch(1)): that of the branch, else the only one or
--- origin, if Git
--- knows where that is
+-- origin, if Git knows where that is
 abbrev pub IsDefault : List Setting → List ℕ → List OldRemote → Option (List ℕ) → Type 0
 IsDefault settings branch files None =
     (remote_of_branch settings branch ≡ None) × ((name : List ℕ) → IsOnlyOrOrigin settings name

@@ -35,16 +35,3 @@ abbrev pub value_of_last : List Setting → Option (List ℕ)
 value_of_last [] = None
 value_of_last (s ∷ []) = value_in s
 value_of_last (s ∷ (other ∷ more)) = value_of_last (other ∷ more)
-
--- a newline and the value of a setting; nothing if it has none
-abbrev pub value_part : Option (List ℕ) → List ℕ
-value_part None = []
-value_part (Some value) = 10 ∷ value
-
--- a setting as `git config --show-origin -z` prints it: its origin and a zero byte, its key, its value, and a zero byte
-abbrev pub shown_setting : Setting → List ℕ
-shown_setting s = s.origin.now ++ (0 ∷ (s.key.now ++ (value_part (value_in s) ++ (0 ∷ []))))
-
--- settings as it prints them
-abbrev pub shown_settings : List Setting → List ℕ
-shown_settings settings = flat_map shown_setting settings

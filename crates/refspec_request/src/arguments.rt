@@ -2,8 +2,7 @@
 
 use crate::refusal::Refusal;
 use bstr::ByteSlice;
-use gix_refspec::parsing::Operation;
-use refspec_io::call::{self, Call, Form, Terminator};
+use refspec_io::call::Form;
 use std::alloc::{AllocError, Global};
 
 /// The commands of `git refspec`.
@@ -76,35 +75,6 @@ pub struct Request<'a> {
     pub arguments: Vec<&'a [u8]>,
     /// How many of them precede the first `--`, if there is one.
     pub dashes: Option<usize>,
-}
-
-impl Request<'_> {
-    /// A call of `refspec` for values of settings, with the options of this request.
-    pub fn call_of<'c>(&self, alloc: Global, command: call::Command) -> Call<'c> {
-        Call {
-            command,
-            operation: Operation::Fetch,
-            form: self.form,
-            ends: Terminator::Settings,
-            verbose: self.verbose,
-            patterns: self.patterns,
-            long: self.long,
-            all: self.all,
-            warns: false,
-            is_strict: false,
-            is_watched: false,
-            specs: Vec::new(alloc),
-            refs: Vec::new(alloc),
-            merges: Vec::new(alloc),
-            tags: false,
-            prune: self.prune,
-            reads_input: false,
-            input: "",
-            beside: "",
-            configured: "",
-            local: "git for-each-ref",
-        }
-    }
 }
 
 /// Parses arguments, from which the result borrows. The first that isn't an option is the command. Fails with the

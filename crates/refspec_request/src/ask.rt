@@ -2,7 +2,8 @@
 
 ghost use Rattle.std.specs.Prelude.{◌≡◌, ◌++◌, ◌∷◌, [], IfOk, OnOk, map};
 ghost use Rattle.std.specs.String.{string_bytes};
-ghost use Rattle.refspec_request.specs.Calls.{asked_of_git, full_name_arguments, in_lines, name_file as file_of_name, refs_arguments, requested};
+ghost use Rattle.refspec_request.specs.Calls.{asked_of_git, full_name_arguments, in_lines, name_file as file_of_name};
+ghost use Rattle.refspec_request.specs.Calls.{refs_arguments, requested};
 
 use std::alloc::{AllocError, Global};
 
@@ -100,7 +101,8 @@ impl GitCall<'_> {
 
 // Appends the arguments that ask for the refs with names.
 fn write_refs(out: &mut Vec<u8>, names: &[Vec<u8>]) -> Result<(), AllocError>
-    ensures { OnOk result (out.new.items ≡ out.old.items ++ in_lines (refs_arguments (map (λ name. name.items) names.now))) }
+    ensures { OnOk result (out.new.items
+        ≡ out.old.items ++ in_lines (refs_arguments (map (λ name. name.items) names.now))) }
 {
     write_format(out)?;
     Ok(write_names(out, names)?)
@@ -139,7 +141,8 @@ fn write_full_name(
 
 // Appends arguments, one per line.
 fn write_lines(out: &mut Vec<u8>, arguments: &[&[u8]]) -> Result<(), AllocError>
-    ensures { OnOk result (out.new.items ≡ out.old.items ++ in_lines (map (λ argument. argument.now) arguments.now)) }
+    ensures { OnOk result (out.new.items
+        ≡ out.old.items ++ in_lines (map (λ argument. argument.now) arguments.now)) }
 {
     for argument in arguments {
         write_argument(out, argument)?;

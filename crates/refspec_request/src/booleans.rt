@@ -2,7 +2,9 @@
 
 ghost use Rattle.std.specs.Prelude.{◌≡◌, ℕ, ◌≤◌, ◌+◌, ◌*◌, ◌<◌, ◌==◌, ◌↔◌, ◌⊎◌, IsTrue, MatchBool, MatchOption};
 ghost use Rattle.std.specs.Str.Parse.{IsNumeral, digits_value};
-ghost use Rattle.refspec_request.specs.Booleans.{IsBooleanOfFetches, IsBooleanOfRemotes, IsInteger, IsRemoteBoolean, Means, after_blanks, after_sign, base_of, factor_of, factor_at, is_blank, IsNo, IsYes, marked, without_unit};
+ghost use Rattle.refspec_request.specs.Booleans.{IsBooleanOfFetches, IsBooleanOfRemotes, IsInteger, IsRemoteBoolean};
+ghost use Rattle.refspec_request.specs.Booleans.{Means, after_blanks, after_sign, base_of, factor_of, factor_at};
+ghost use Rattle.refspec_request.specs.Booleans.{is_blank, IsNo, IsYes, marked, without_unit};
 
 use crate::settings::name_and_variable;
 use refspec_io::settings::Setting;
@@ -49,7 +51,8 @@ fn meaning_of(text: &[u8]) -> Boolean
 /// Whether a value is true.
 pub fn is_true(value: Option<&[u8]>) -> bool
     ensures { MatchOption value.entry (IsTrue result)
-        (λ text. MatchBool result (Means text.now Boolean.True) (Means text.now Boolean.False ⊎ Means text.now Boolean.Bad)) }
+        (λ text. MatchBool result (Means text.now Boolean.True)
+        (Means text.now Boolean.False ⊎ Means text.now Boolean.Bad)) }
 {
     let Some(text) = value else {
         return true;

@@ -1,8 +1,13 @@
 //! The remote and the specs that the arguments of a call name.
 
-ghost use Rattle.std.specs.Prelude.{◌↔◌, ◌⊎◌, IsTrue, codes};
+ghost use Rattle.std.specs.Prelude.{◌≡◌, ◌↔◌, ◌⊎◌, [], IfErr, IfOk, IsTrue, MatchBool, MatchOption, MatchResult, codes};
+ghost use Rattle.std.specs.Prelude.{map, option_map};
 ghost use Rattle.gix_refspec_text.specs.Texts.Words.{BeginsWith, ContainsText, EndsWith};
-ghost use Rattle.refspec_request.specs.Remotes.{IsConfigured, IsInFile};
+ghost use Rattle.refspec_request.specs.Choices.{AreInDoubt, AreNamed, Chooses, HasNoOldForm, IsCertainlyRemote};
+ghost use Rattle.refspec_request.specs.Choices.{IsChosen, IsFetchedFrom, IsGivenPath, IsInDoubt, IsOldForm};
+ghost use Rattle.refspec_request.specs.Choices.{IsTakenForRemote, IsTakenForSpec, MayBeFetched, NamesRemote};
+ghost use Rattle.refspec_request.specs.Choices.{RefusesChoice, RefusesRemote};
+ghost use Rattle.refspec_request.specs.declared.choice.Looks.TheVariants as looks;
 ghost use Rattle.refspec_request.specs.Words.{BeginsAsPath, EndsAsSpec, HasHost, IsCertainlySpec, IsUrl, LooksLike};
 
 use crate::arguments::Request;
@@ -103,7 +108,7 @@ fn ends_as_spec(argument: &[u8]) -> bool
 }
 
 // Whether a text begins with another.
-fn begins_with(text: &[u8], start: &[u8]) -> bool
+pub(crate) fn begins_with(text: &[u8], start: &[u8]) -> bool
     ensures { IsTrue result ↔ BeginsWith start.now text.now }
 {
     text.starts_with(start)
@@ -138,18 +143,21 @@ pub struct Repository<'a, 'b> {
 impl<'b> Repository<'_, 'b> {
     /// Whether an argument is the name of a remote.
     pub fn has_remote(&self, argument: &[u8]) -> bool
-        ensures { IsTrue result ↔ (IsConfigured self.now.settings.now argument.now
-            ⊎ IsInFile self.now.old.now argument.now) }
+        ensures { IsTrue result ↔ NamesRemote self.now argument.now }
     {
         is_configured(self.settings, argument) || is_in_file(self.old, argument)
     }
 
-    /// The refusal of a remote that Git reads from a file of its own, as the configuration has no URL for it. `None` for any other.
-    pub fn old_remote(&self, name: &'b [u8]) -> Option<Refusal<'b>> {
+    /// The refusal of a remote that Git reads from a file of its own, as the configuration has no URL for it. `None`
+    /// for any other.
+    pub fn old_remote(&self, name: &'b [u8]) -> Option<Refusal<'b>>
+        ensures { MatchOption result (HasNoOldForm self.now name.entry.now) (IsOldForm self.now name.entry.now) }
+    {
         if has_location(self.settings, name) {
             return None;
         }
-        for old in self.old {
+        let files = self.old;
+        for old in files {
             if old.name.as_slice() == name {
                 return Some(Refusal::OldForm {
                     name,
@@ -161,15 +169,48 @@ impl<'b> Repository<'_, 'b> {
     }
 
     /// Whether a chosen remote may be one: it is known, or doesn't look like a plain word, which Git takes for a path.
-    pub fn may_fetch(&self, remote: &[u8]) -> bool {
-        self.knows(remote) || looks_of(remote) != Looks::Plain
+    pub fn may_fetch(&self, remote: &[u8]) -> bool
+        ensures { IsTrue result ↔ MayBeFetched self.now remote.now }
+    {
+        self.knows(remote) || !is_plain_word(remote)
     }
 
     // Whether a first argument is certainly a remote.
-    fn knows(&self, argument: &[u8]) -> bool {
+    fn knows(&self, argument: &[u8]) -> bool
+        ensures { IsTrue result ↔ IsCertainlyRemote self.now argument.now }
+    {
         self.has_remote(argument)
             || is_rewritten(self.settings, argument)
-            || self.is_path && looks_of(argument) != Looks::Spec
+            || self.is_given_path(argument)
+    }
+
+    // Whether an argument is the existing path of the call, and doesn't look like a spec.
+    fn is_given_path(&self, argument: &[u8]) -> bool
+        ensures { IsTrue result ↔ IsGivenPath self.now argument.now }
+    {
+        self.is_path && !looks_like_spec(argument)
+    }
+}
+
+fn looks_like_spec(argument: &[u8]) -> bool
+    ensures { IsTrue result ↔ LooksLike argument.now looks.Spec }
+{
+    match looks_of(argument) {
+        Looks::Spec => true,
+        Looks::Url => false,
+        Looks::Either => false,
+        Looks::Plain => false,
+    }
+}
+
+fn is_plain_word(argument: &[u8]) -> bool
+    ensures { IsTrue result ↔ LooksLike argument.now looks.Plain }
+{
+    match looks_of(argument) {
+        Looks::Plain => true,
+        Looks::Spec => false,
+        Looks::Url => false,
+        Looks::Either => false,
     }
 }
 
@@ -182,55 +223,93 @@ pub struct Choice<'a> {
 
 /// The remote and the specs that the arguments of a request name, and from which they borrow. The remote is that of
 /// `--remote`, else the first argument if it precedes `--`, or is or looks like a remote, else the default.
-/// Refuses an argument that may be a URL or a spec, a call without a remote, a group of remotes, and a remote with a newline. Fails with
-/// `Refusal::Memory` if memory runs out.
+/// Refuses an argument that may be a URL or a spec, a call without a remote, a group of remotes, and a remote with a
+/// newline. Fails with `Refusal::Memory` if memory runs out.
 pub fn choice_of<'a>(
     alloc: Global,
     request: &Request<'a>,
     repository: &Repository<'a, 'a>,
-) -> Result<Choice<'a>, Refusal<'a>> {
+) -> Result<Choice<'a>, Refusal<'a>>
+    ensures ok { IfOk result (λ choice. Chooses repository.now request.now choice) }
+    ensures refused { IfErr result (λ refusal. RefusesChoice repository.now request.now refusal) }
+{
+    let (named, specs) = named_in(request, repository)?;
+    let remote = remote_to_fetch(named, repository)?;
+    let specs = Vec::from_slice(alloc, specs)?;
+    Ok(Choice { remote, specs })
+}
+
+// The remote that the arguments name, if they name one, and the specs.
+fn named_in<'a, 'r>(
+    request: &'r Request<'a>,
+    repository: &Repository<'_, '_>,
+) -> Result<(Option<&'a [u8]>, &'r [&'a [u8]]), Refusal<'a>>
+    ensures ok { IfOk result (λ named. AreNamed request.now.dashes repository.now
+        (option_map (λ text. text.now) request.now.remote) (map (λ text. text.now) request.now.arguments.items)
+        (option_map (λ text. text.now) named.0, map (λ text. text.now) named.1.now)) }
+    ensures refused { IfErr result (AreInDoubt request.now.dashes repository.now
+        (option_map (λ text. text.now) request.now.remote) (map (λ text. text.now) request.now.arguments.items)) }
+{
     let arguments = request.arguments.as_slice();
-    let (remote, specs) = match (request.remote, arguments) {
-        (Some(remote), _) => (Some(remote), arguments),
-        (None, []) => (None, arguments),
-        (None, [first, rest @ ..]) => {
-            if is_remote(request.dashes, first, repository)? {
-                (Some(*first), rest)
-            } else {
-                (None, arguments)
+    match request.remote {
+        Some(remote) => Ok((Some(remote), arguments)),
+        None => match arguments {
+            [] => Ok((None, arguments)),
+            [first, rest @ ..] => {
+                if is_remote(request.dashes, first, repository)? {
+                    Ok((Some(*first), rest))
+                } else {
+                    Ok((None, arguments))
+                }
             }
-        }
-    };
-    if let Some(name) = remote {
-        if is_group(repository.settings, name) {
-            return Err(Refusal::Group {
-                name,
-                settings: repository.settings,
-            });
-        }
-    }
-    let remote = match remote {
-        Some(remote) => remote,
-        None => match default_remote(repository.settings, repository.branch, repository.old) {
-            Some(remote) => remote,
-            None => return Err(Refusal::NoDefault),
         },
-    };
+    }
+}
+
+// The remote to fetch from: the named one, or the default.
+fn remote_to_fetch<'a>(
+    named: Option<&'a [u8]>,
+    repository: &Repository<'a, 'a>,
+) -> Result<&'a [u8], Refusal<'a>>
+    ensures ok { IfOk result (λ remote.
+        IsFetchedFrom repository.now (option_map (λ text. text.now) named.entry) remote.now) }
+    ensures refused { IfErr result (RefusesRemote repository.now (option_map (λ text. text.now) named.entry)) }
+{
+    let remote = chosen_remote(named, repository)?;
     // A branch may name an empty remote.
-    if remote.is_empty() {
+    if is_nothing(remote) {
         return Err(Refusal::NoDefault);
     }
-    if remote.find_byte(b'\n').is_some() {
+    if has_word(remote, b"\n") {
         return Err(Refusal::Newline(remote));
     }
-    let mut kept = Vec::with_capacity(alloc, specs.len())?;
-    for spec in specs {
-        kept.push(*spec)?;
+    Ok(remote)
+}
+
+fn is_nothing(text: &[u8]) -> bool
+    ensures { IsTrue result ↔ (text.now ≡ []) }
+{
+    text.is_empty()
+}
+
+// The named remote, unless it is a group, or the default.
+fn chosen_remote<'a>(
+    named: Option<&'a [u8]>,
+    repository: &Repository<'a, 'a>,
+) -> Result<&'a [u8], Refusal<'a>>
+    ensures ok { IfOk result (λ remote.
+        IsChosen repository.now (option_map (λ text. text.now) named.entry) remote.now) }
+    ensures refused { IfErr result (RefusesRemote repository.now (option_map (λ text. text.now) named.entry)) }
+{
+    let settings = repository.settings;
+    match named {
+        Some(name) if is_group(settings, name) => Err(Refusal::Group { name, settings }),
+        Some(name) => Ok(name),
+        None => match default_remote(settings, repository.branch, repository.old) {
+            Some(remote) => Ok(remote),
+            None => Err(Refusal::NoDefault),
+        },
     }
-    Ok(Choice {
-        remote,
-        specs: kept,
-    })
 }
 
 // Whether a first argument is a remote, and not a spec for the default one.
@@ -238,16 +317,29 @@ fn is_remote<'a>(
     dashes: Option<usize>,
     argument: &'a [u8],
     repository: &Repository<'_, '_>,
-) -> Result<bool, Refusal<'a>> {
+) -> Result<bool, Refusal<'a>>
+    ensures { MatchResult result
+        (λ is. MatchBool is (IsTakenForRemote dashes repository.now argument.entry.now)
+        (IsTakenForSpec dashes repository.now argument.entry.now))
+        (IsInDoubt dashes repository.now argument.entry.now) }
+{
     if repository.knows(argument) {
         return Ok(true);
     }
-    match (dashes, looks_of(argument)) {
-        (Some(before), looks) if before > 0 => Ok(true),
-        (_, Looks::Spec) => Ok(false),
-        (_, Looks::Url) => Ok(true),
-        (Some(_), _) => Ok(false),
-        (None, Looks::Plain) => Ok(true),
-        (None, Looks::Either) => Err(Refusal::UrlOrSpec(argument)),
+    let looks = looks_of(argument);
+    match dashes {
+        None => match looks {
+            Looks::Spec => Ok(false),
+            Looks::Url => Ok(true),
+            Looks::Plain => Ok(true),
+            Looks::Either => Err(Refusal::UrlOrSpec(argument)),
+        },
+        Some(0) => match looks {
+            Looks::Url => Ok(true),
+            Looks::Spec => Ok(false),
+            Looks::Plain => Ok(false),
+            Looks::Either => Ok(false),
+        },
+        Some(_) => Ok(true),
     }
 }

@@ -39,13 +39,4 @@ impl Output {
         self.status = self.status.max(refusal.status());
         refusal.write(&mut self.messages)
     }
-
-    /// Raises the exit status to this one, if that is greater.
-    pub fn raise(&mut self, status: u8)
-        ensures status { self.new.status ≡ max self.old.status status }
-        ensures results { self.new.results ≡ self.old.results }
-        ensures messages { self.new.messages ≡ self.old.messages }
-    {
-        self.status = self.status.max(status);
-    }
 }

@@ -1,7 +1,11 @@
 //! Why a call of `git refspec` ends with a message of its own.
 
 ghost use Rattle.std.specs.Prelude.{◌≡◌, ◌∷◌, [], OnOk};
-ghost use Rattle.refspec_request.specs.Refusals.{Writes, quoted, refusal_status, words};
+ghost use Rattle.refspec_request.specs.Refusals.{Writes, advice_of, boolean_sentence, elsewhere_sentence};
+ghost use Rattle.refspec_request.specs.Refusals.{group_sentence, location, message_of, old_form_sentence};
+ghost use Rattle.refspec_request.specs.Refusals.{pieces_of_members, quoted, refusal_status, sentence_of};
+ghost use Rattle.refspec_request.specs.Refusals.{value_sentence, words};
+ghost use Rattle.refspec_request.specs.Remotes.{listed_in};
 
 use crate::remotes::{is_between_members, members_in};
 use crate::usage::USAGE;
@@ -63,6 +67,11 @@ pub enum Refusal<'a> {
         key: &'a [u8],
         value: &'a [u8],
     },
+    /// A setting at which Git stops has no value.
+    NoValue {
+        origin: &'a [u8],
+        key: &'a [u8],
+    },
     /// No remote has fetch values.
     NoValuesAtAll,
     /// A value of a remote that the arguments don't name is refused.
@@ -79,6 +88,7 @@ impl Refusal<'_> {
         match self {
             Refusal::OldForm { .. }
             | Refusal::BadBoolean { .. }
+            | Refusal::NoValue { .. }
             | Refusal::NoValuesAtAll
             | Refusal::OtherRefused => 1,
             Refusal::Memory => 3,
@@ -87,96 +97,111 @@ impl Refusal<'_> {
     }
 
     /// Appends the lines of the message. Fails if memory runs out.
-    pub fn write(&self, out: &mut Vec<u8>) -> Result<(), AllocError> {
-        out.extend_from_slice(b"git refspec: ")?;
-        match self {
-            Refusal::OptionElsewhere(option, command) => {
-                write_about(out, "", option.as_bytes(), ": only ")?;
-                write_about(out, "", command.as_bytes(), " takes this option")?
-            }
-            Refusal::OldForm { name, folder } => write_old_form(out, name, folder)?,
-            Refusal::Group { name, settings } => write_group(out, name, settings)?,
-            Refusal::BadBoolean { origin, key, value } => {
-                write_shown(out, origin, Form::Lines)?;
-                out.extend_from_slice(b": ")?;
-                write_about(out, "", key, ": ")?;
-                write_about(
-                    out,
-                    "",
-                    value,
-                    " is not a boolean, so Git stops; write true or false",
-                )?
-            }
-            _ => {
-                let (before, argument, after) = self.sentence();
-                write_about(out, before, argument, after)?
-            }
-        }
-        out.push(b'\n')?;
+    pub fn write(&self, out: &mut Vec<u8>) -> Result<(), AllocError>
+        ensures { OnOk result (Writes (message_of self.now) out.old.items out.new.items) }
+    {
+        write_words(out, "git refspec: ")?;
+        self.write_sentence(out)?;
+        write_words(out, "\n")?;
+        Ok(self.write_advice(out)?)
+    }
+
+    // Appends the synopses, if the command or an option is unknown.
+    fn write_advice(&self, out: &mut Vec<u8>) -> Result<(), AllocError>
+        ensures { OnOk result (Writes (advice_of self.now) out.old.items out.new.items) }
+    {
         match self {
             Refusal::NoCommand | Refusal::NoSuchCommand(_) | Refusal::NoSuchOption(_) => {
-                out.extend_from_slice(USAGE.as_bytes())
+                write_words(out, USAGE)
             }
             _ => Ok(()),
         }
     }
 
-    // The sentence about an argument: the text before the argument, the argument, and the text after it.
-    fn sentence(&self) -> (&'static str, &[u8], &'static str) {
+    // Appends the sentence.
+    fn write_sentence(&self, out: &mut Vec<u8>) -> Result<(), AllocError>
+        ensures { OnOk result (Writes (sentence_of self.now) out.old.items out.new.items) }
+    {
         match self {
-            Refusal::NoCommand => ("no ", b"command", " is given"),
-            Refusal::NoSuchCommand(argument) => ("there is no command ", argument, ""),
-            Refusal::NoSuchOption(argument) => ("there is no option ", argument, ""),
-            Refusal::NeedlessValue(argument) => ("", argument, ": this option takes no value"),
-            Refusal::NoRemoteName => ("", b"--remote", " takes the name of a remote"),
-            Refusal::NoRefmap => ("", b"--refmap", " takes a spec, or an empty one"),
-            Refusal::IdleRefmap => (
-                "",
-                b"--refmap",
-                " replaces the fetch values for given specs, and Git refuses it without any",
+            Refusal::NoCommand => write_words(out, "no command is given"),
+            Refusal::NoSuchCommand(argument) => {
+                write_about(out, "there is no command ", argument, "")
+            }
+            Refusal::NoSuchOption(argument) => {
+                write_about(out, "there is no option ", argument, "")
+            }
+            Refusal::NeedlessValue(argument) => {
+                write_about(out, "", argument, ": this option takes no value")
+            }
+            Refusal::OptionElsewhere(option, command) => write_elsewhere(out, option, command),
+            Refusal::NoRemoteName => write_words(out, "--remote takes the name of a remote"),
+            Refusal::NoRefmap => write_words(out, "--refmap takes a spec, or an empty one"),
+            Refusal::IdleRefmap => write_words(
+                out,
+                "--refmap replaces the fetch values for given specs, and Git refuses it without any",
             ),
-            Refusal::NoRef => (
-                "",
-                b"track",
-                " takes a tracking ref, such as origin/main: git refspec track REF..",
+            Refusal::NoRef => write_words(
+                out,
+                "track takes a tracking ref, such as origin/main: git refspec track REF..",
             ),
-            Refusal::UrlOrSpec(argument) => (
+            Refusal::UrlOrSpec(argument) => write_about(
+                out,
                 "",
                 argument,
                 " may be a URL or a spec; put the remote before a spec, or `--`, and a URL after --remote",
             ),
-            Refusal::NoRemoteNoSpec(argument) => (
+            Refusal::NoRemoteNoSpec(argument) => write_about(
+                out,
                 "",
                 argument,
                 " is not a configured remote; `git remote` lists those, and a spec may follow `--`",
             ),
-            Refusal::NoDefault => (
-                "no ",
-                b"remote",
-                " is given: the current branch has none, and neither a single one nor origin has a URL",
+            Refusal::NoDefault => write_words(
+                out,
+                "no remote is given: the current branch has none, and neither a single one nor origin has a URL",
             ),
-            Refusal::NotUtf8(argument) => (
+            Refusal::NotUtf8(argument) => write_about(
+                out,
                 "",
                 argument,
                 " is not UTF-8; give such a spec to refspec on its standard input",
             ),
-            Refusal::Newline(argument) => ("", argument, " has a newline, so it names no remote"),
-            Refusal::NoTagName => ("", b"tag", " takes the name of a tag"),
-            Refusal::NoRefName(argument) => ("", argument, " is not a valid ref name"),
-            Refusal::NotARef(argument) => ("", argument, " is not a ref"),
-            Refusal::NoValuesAtAll => ("no ", b"remote", " has fetch values"),
-            Refusal::OtherRefused => (
-                "a value of another remote is refused, so Git uses none; `git refspec ",
-                b"check",
-                "` shows which",
+            Refusal::Newline(argument) => {
+                write_about(out, "", argument, " has a newline, so it names no remote")
+            }
+            Refusal::NoTagName => write_words(out, "tag takes the name of a tag"),
+            Refusal::NoRefName(argument) => {
+                write_about(out, "", argument, " is not a valid ref name")
+            }
+            Refusal::NotARef(argument) => write_about(out, "", argument, " is not a ref"),
+            Refusal::OldForm { name, folder } => write_old_form(out, name, folder),
+            Refusal::Group { name, settings } => write_group(out, name, settings),
+            Refusal::BadBoolean { origin, key, value } => write_bad_boolean(
+                out, origin, key, value,
             ),
-            _ => ("out of ", b"memory", ""),
+            Refusal::NoValue { origin, key } => write_no_value(out, origin, key),
+            Refusal::NoValuesAtAll => write_words(out, "no remote has fetch values"),
+            Refusal::OtherRefused => write_words(
+                out,
+                "a value of another remote is refused, so Git uses none; `git refspec check` shows which",
+            ),
+            Refusal::Memory => write_words(out, "out of memory"),
         }
     }
 }
 
+// Appends the sentence on an option of another command.
+fn write_elsewhere(out: &mut Vec<u8>, option: &str, command: &str) -> Result<(), AllocError>
+    ensures { OnOk result (Writes (elsewhere_sentence option.now command.now) out.old.items out.new.items) }
+{
+    write_about(out, "", option.as_bytes(), ": only ")?;
+    Ok(write_about(out, "", command.as_bytes(), " takes this option")?)
+}
+
 // Appends the sentence on a remote that isn't in the configuration.
-fn write_old_form(out: &mut Vec<u8>, name: &[u8], folder: &str) -> Result<(), AllocError> {
+fn write_old_form(out: &mut Vec<u8>, name: &[u8], folder: &str) -> Result<(), AllocError>
+    ensures { OnOk result (Writes (old_form_sentence name.now folder.now) out.old.items out.new.items) }
+{
     write_about(out, "the remote ", name, " is configured in ")?;
     write_about(
         out,
@@ -185,20 +210,75 @@ fn write_old_form(out: &mut Vec<u8>, name: &[u8], folder: &str) -> Result<(), Al
         ", which is not read here; `git remote rename ",
     )?;
     write_about(out, "", name, " ")?;
-    write_about(out, "", name, "` moves it into the configuration")
+    Ok(write_about(out, "", name, "` moves it into the configuration")?)
 }
 
 // Appends the sentence on a group of remotes.
-fn write_group(out: &mut Vec<u8>, name: &[u8], settings: &[Setting<'_>]) -> Result<(), AllocError> {
+fn write_group(out: &mut Vec<u8>, name: &[u8], settings: &[Setting<'_>]) -> Result<(), AllocError>
+    ensures { OnOk result (Writes (group_sentence name.now settings.now) out.old.items out.new.items) }
+{
     write_about(out, "", name, " is a group of remotes; name one of them:")?;
     for setting in settings {
-        for member in members_in(setting, name).split(is_between_members) {
-            if !member.is_empty() {
-                write_about(out, " ", member, "")?;
-            }
-        }
+        write_members(out, members_in(setting, name))?;
     }
     Ok(())
+}
+
+// Appends the remotes that a text lists.
+fn write_members(out: &mut Vec<u8>, text: &[u8]) -> Result<(), AllocError>
+    ensures { OnOk result (Writes (pieces_of_members (listed_in text.now)) out.old.items out.new.items) }
+{
+    let members = text
+        .split(is_between_members)
+        .filter(|member| !member.is_empty());
+    for member in members {
+        write_about(out, " ", member, "")?;
+    }
+    Ok(())
+}
+
+// Appends the sentence on a setting that isn't a boolean.
+fn write_bad_boolean(
+    out: &mut Vec<u8>,
+    origin: &[u8],
+    key: &[u8],
+    value: &[u8],
+) -> Result<(), AllocError>
+    ensures { OnOk result (Writes (boolean_sentence origin.now key.now value.now) out.old.items out.new.items) }
+{
+    write_location(out, origin, key)?;
+    Ok(write_about(
+        out,
+        "",
+        value,
+        " is not a boolean, so Git stops; write true or false",
+    )?)
+}
+
+// Appends the sentence on a setting that needs a value.
+fn write_no_value(out: &mut Vec<u8>, origin: &[u8], key: &[u8]) -> Result<(), AllocError>
+    ensures { OnOk result (Writes (value_sentence origin.now key.now) out.old.items out.new.items) }
+{
+    write_location(out, origin, key)?;
+    Ok(write_words(
+        out,
+        "the value is missing, so Git stops; write `=` and a value behind the key, or remove its line",
+    )?)
+}
+
+// Appends the origin and the key of a setting, before what is said of it.
+fn write_location(out: &mut Vec<u8>, origin: &[u8], key: &[u8]) -> Result<(), AllocError>
+    ensures { OnOk result (Writes (location origin.now key.now) out.old.items out.new.items) }
+{
+    write_shown(out, origin, Form::Lines)?;
+    write_about(out, ": ", key, ": ")
+}
+
+// Appends words.
+fn write_words(out: &mut Vec<u8>, text: &str) -> Result<(), AllocError>
+    ensures { OnOk result (Writes (words text.now ∷ []) out.old.items out.new.items) }
+{
+    out.extend_from_slice(text.as_bytes())
 }
 
 /// Appends a name, quoted if necessary, between two texts. Fails if memory runs out.
@@ -217,12 +297,20 @@ pub fn write_about(
 }
 
 impl<'a> From<AllocError> for Refusal<'a> {
+    ghost use Rattle.refspec_request.specs.Refusals.{IsForMemory};
+
+    ghost from_gives = { λ _ refusal. IsForMemory refusal };
+
     fn from(_: AllocError) -> Refusal<'a> {
         Refusal::Memory
     }
 }
 
 impl<'a, T: Drop> From<AllocFailed<T>> for Refusal<'a> {
+    ghost use Rattle.refspec_request.specs.Refusals.{IsForMemory};
+
+    ghost from_gives = { λ _ refusal. IsForMemory refusal };
+
     fn from(_: AllocFailed<T>) -> Refusal<'a> {
         Refusal::Memory
     }

@@ -1,10 +1,15 @@
 //! The remotes of a configuration.
 
-ghost use Rattle.std.specs.Prelude.{◌≡◌, ◌⊎◌, ◌↔◌, ℕ, IsTrue, List, MatchOption, codes, option_map};
+ghost use Rattle.std.specs.Prelude.{◌≡◌, ◌⊎◌, ◌↔◌, ◌++◌, ◌∷◌, [], ℕ, IfOk, IsTrue, List, MatchOption, OnOk, codes};
+ghost use Rattle.std.specs.Prelude.{cond, length, option_map};
 ghost use Rattle.std.specs.List.{Any};
+ghost use Rattle.std.specs.Str.{bytes_eq};
 ghost use Rattle.gix_refspec_text.specs.Texts.Words.{BeginsWith};
-ghost use Rattle.refspec_request.specs.Remotes.{IsConfigured, IsDefault, IsIgnored, IsInFile, IsLocated, IsOfOther, IsOfRemote, IsOnly, IsOnlyOrOrigin, SaysWhere, is_between, members_text};
+ghost use Rattle.refspec_request.specs.Remotes.{AreFetchValues, IsConfigured, IsDefault, IsGroup, IsIgnored, IsInFile};
+ghost use Rattle.refspec_request.specs.Remotes.{IsInsteadOf, IsLocated, IsOfOther, IsOfRemote, IsOnly, IsOnlyOrOrigin};
+ghost use Rattle.refspec_request.specs.Remotes.{Rewrites, SaysWhere, is_between, listed_in, members_text};
 
+use crate::choice::begins_with;
 use crate::settings::{last_value, name_and_variable};
 use refspec_io::settings::Setting;
 use std::alloc::{AllocError, Global};
@@ -21,17 +26,48 @@ pub struct OldRemote {
 pub fn fetch_values<'a>(
     alloc: Global,
     settings: &[Setting<'a>],
-) -> Result<BTreeMap<&'a [u8], Vec<Setting<'a>>>, AllocError> {
-    let mut remotes: BTreeMap<&'a [u8], Vec<Setting<'a>>> = BTreeMap::new(alloc);
+) -> Result<BTreeMap<&'a [u8], Vec<Setting<'a>>>, AllocError>
+    ensures { IfOk result (AreFetchValues settings.now) }
+{
+    let mut remotes = BTreeMap::new(alloc);
     for setting in settings {
-        if let Some((name, variable)) = name_and_variable(b"remote", setting.key) {
-            let values = remotes.entry(name)?.or_insert(Vec::new(alloc));
-            if variable == b"fetch".as_slice() {
-                values.push(*setting)?;
-            }
-        }
+        add_setting(alloc, &mut remotes, setting)?;
     }
     Ok(remotes)
+}
+
+// Adds a setting to the fetch values of remotes, if it is one of a remote.
+fn add_setting<'a>(
+    alloc: Global,
+    remotes: &mut BTreeMap<&'a [u8], Vec<Setting<'a>>>,
+    setting: &Setting<'a>,
+) -> Result<(), AllocError>
+    ensures { (seen : List Setting) → AreFetchValues seen remotes.old → OnOk result
+        (AreFetchValues (seen ++ setting.now ∷ []) remotes.new) }
+{
+    let Some(parts) = name_and_variable(b"remote", setting.key) else {
+        return Ok(());
+    };
+    let (name, variable) = parts;
+    let mut values = remotes.remove(name).unwrap_or(Vec::new(alloc));
+    add_value(&mut values, variable, setting)?;
+    remotes.insert(name, values)?;
+    Ok(())
+}
+
+// Adds a setting to the fetch values of its remote, if it is one.
+fn add_value<'a>(
+    values: &mut Vec<Setting<'a>>,
+    variable: &[u8],
+    setting: &Setting<'a>,
+) -> Result<(), AllocError>
+    ensures { OnOk result (values.new.items
+        ≡ values.old.items ++ cond (bytes_eq variable.now (codes "fetch")) (setting.now ∷ []) []) }
+{
+    if variable == b"fetch".as_slice() {
+        values.push(*setting)?;
+    }
+    Ok(())
 }
 
 /// Whether there is a setting `remote.NAME.VARIABLE` with this name.
@@ -51,18 +87,30 @@ fn is_of_remote(setting: &Setting<'_>, name: &[u8]) -> bool
     }
 }
 
-/// Whether Git rewrites a URL: it begins with a value of `url.BASE.insteadOf`.
-pub fn is_rewritten(settings: &[Setting<'_>], url: &[u8]) -> bool {
+/// Whether Git rewrites a URL: it begins with a value of `url.BASE.insteadOf`, as each URL does with an empty one.
+pub fn is_rewritten(settings: &[Setting<'_>], url: &[u8]) -> bool
+    ensures { IsTrue result ↔ Any (Rewrites url.now) settings.now }
+{
     settings.iter().any(|setting| rewrites(setting, url))
 }
 
 // Whether the value of a setting `url.BASE.insteadOf` is a prefix of a URL.
-fn rewrites(setting: &Setting<'_>, url: &[u8]) -> bool {
-    match (name_and_variable(b"url", setting.key), setting.value) {
-        (Some((_, variable)), Some(start)) => {
-            variable == b"insteadof".as_slice() && !start.is_empty() && url.starts_with(start)
-        }
-        _ => false,
+fn rewrites(setting: &Setting<'_>, url: &[u8]) -> bool
+    ensures { IsTrue result ↔ Rewrites url.now setting.now }
+{
+    match setting.value {
+        None => false,
+        Some(start) => is_instead_of(setting.key) && begins_with(url, start),
+    }
+}
+
+// Whether a key is `url.BASE.insteadOf`.
+fn is_instead_of(key: &[u8]) -> bool
+    ensures { IsTrue result ↔ IsInsteadOf key.now }
+{
+    match name_and_variable(b"url", key) {
+        None => false,
+        Some((_, variable)) => variable == b"insteadof".as_slice(),
     }
 }
 
@@ -108,17 +156,25 @@ fn is_location(variable: &[u8]) -> bool
     matches!(variable, b"url" | b"vcs")
 }
 
-/// Whether a name is that of a group of several remotes, which `git fetch NAME` then fetches from, even if a remote has this name too.
-pub fn is_group(settings: &[Setting<'_>], name: &[u8]) -> bool {
+/// Whether a name is that of a group of several remotes, which `git fetch NAME` then fetches from, even if a remote has
+/// this name too.
+pub fn is_group(settings: &[Setting<'_>], name: &[u8]) -> bool
+    ensures { IsTrue result ↔ IsGroup settings.now name.now }
+{
     let mut count: usize = 0;
     for setting in settings {
-        for member in members_in(setting, name).split(is_between_members) {
-            if !member.is_empty() {
-                count = count.saturating_add(1);
-            }
-        }
+        count = count.saturating_add(count_listed(members_in(setting, name)));
     }
     count > 1
+}
+
+// How many remotes a text lists.
+fn count_listed(text: &[u8]) -> usize
+    ensures { result ≡ length (listed_in text.now) }
+{
+    text.split(is_between_members)
+        .filter(|member| !member.is_empty())
+        .count()
 }
 
 /// The text with which a setting lists remotes of a group; empty if it lists none.
@@ -138,9 +194,9 @@ pub fn is_between_members(byte: &u8) -> bool
     matches!(*byte, b' ' | b'\t' | b'\n')
 }
 
-/// The remote that `git fetch` without arguments takes: that of the current branch, else the only one, else `origin`. The branch is empty
-/// if there is none. One that the branch doesn't name needs a location, in the configuration or among those in files. `None` if `git fetch`
-/// does nothing.
+/// The remote that `git fetch` without arguments takes: that of the current branch, else the only one, else `origin`.
+/// The branch is empty if there is none. One that the branch doesn't name needs a location, in the configuration or
+/// among those in files. `None` if `git fetch` does nothing.
 pub fn default_remote<'a>(
     settings: &[Setting<'a>],
     branch: &[u8],
@@ -205,7 +261,9 @@ fn only_or_origin<'a>(settings: &[Setting<'a>]) -> &'a [u8]
 
 // The remote, if exactly one is configured.
 fn only_remote<'a>(settings: &[Setting<'a>]) -> Option<&'a [u8]>
-    ensures { MatchOption result ((name : List ℕ) → ¬ (IsOnly settings.now name)) (λ name. IsOnly settings.now name.now) }
+    ensures { MatchOption result
+        ((name : List ℕ) → ¬ (IsOnly settings.now name))
+        (λ name. IsOnly settings.now name.now) }
 {
     let name = first_remote(settings)?;
     if has_other(settings, name) {

@@ -1,9 +1,9 @@
 //! The settings of Git's configuration.
 
-ghost use Rattle.std.specs.Prelude.{◌≡◌, ◌≢◌, ◌++◌, ◌∷◌, ℕ, List, IfOk, MatchOption, OnOk, option_map};
+ghost use Rattle.std.specs.Prelude.{◌≡◌, ◌≢◌, ◌++◌, ◌∷◌, ℕ, List, IfOk, MatchOption, option_map};
 ghost use Rattle.std.specs.Str.{bytes_eq};
 ghost use Rattle.gix_refspec_text.specs.Texts.Words.{Lacks};
-ghost use Rattle.refspec_request.specs.Settings.{IsKey, joined_key, settings_with, shown_setting, shown_settings, value_of_last};
+ghost use Rattle.refspec_request.specs.Settings.{IsKey, joined_key, settings_with, value_of_last};
 
 pub use crate::booleans::is_true;
 use bstr::ByteSlice;
@@ -104,28 +104,4 @@ fn strip_part<'a>(text: &'a [u8], part: &[u8]) -> Option<&'a [u8]>
 {
     let rest = text.strip_prefix(part)?;
     rest.strip_prefix(b".")
-}
-
-/// Appends settings, as `git config --show-origin -z` prints them. Fails if memory runs out.
-pub fn write_settings(out: &mut Vec<u8>, settings: &[Setting<'_>]) -> Result<(), AllocError>
-    ensures { OnOk result (out.new.items ≡ out.old.items ++ shown_settings settings.now) }
-{
-    for setting in settings {
-        write_setting(out, setting)?;
-    }
-    Ok(())
-}
-
-// Appends a setting.
-fn write_setting(out: &mut Vec<u8>, setting: &Setting<'_>) -> Result<(), AllocError>
-    ensures { OnOk result (out.new.items ≡ out.old.items ++ shown_setting setting.now) }
-{
-    out.extend_from_slice(setting.origin)?;
-    out.push(0)?;
-    out.extend_from_slice(setting.key)?;
-    if let Some(value) = setting.value {
-        out.push(b'\n')?;
-        out.extend_from_slice(value)?;
-    }
-    Ok(out.push(0)?)
 }

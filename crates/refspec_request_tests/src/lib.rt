@@ -1,4 +1,5 @@
-//! Tests of `refspec_request` by its public names. They are a crate of their own, as a crate with tests is proved twice.
+//! Tests of `refspec_request` by its public names. They are a crate of their own, as a crate with tests is proved
+//! twice.
 #![tactic(auto)]
 
 #[cfg(test)]

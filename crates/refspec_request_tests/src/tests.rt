@@ -8,13 +8,14 @@ use refspec_request::booleans::{
     Boolean, boolean_of, is_boolean_of_fetches, is_boolean_of_remotes, is_true,
 };
 use refspec_request::choice::{Choice, Looks, Repository, choice_of, looks_of};
+use refspec_request::needed::needs_value;
 use refspec_request::output::Output;
 use refspec_request::refusal::{Refusal, write_about};
 use refspec_request::remotes::{
     OldRemote, default_remote, fetch_values, has_location, is_configured, is_group, is_ignored,
     is_in_file, is_rewritten,
 };
-use refspec_request::settings::{last_value, name_and_variable, settings_named, write_settings};
+use refspec_request::settings::{last_value, name_and_variable, settings_named};
 use std::alloc::{AllocError, Global};
 use std::test::Fail;
 
@@ -28,15 +29,6 @@ const PRINTED: &[u8] =
 
 // A single remote, whose name contains a dot.
 const ONE_REMOTE: &[u8] = b"file:a\0remote.a.b.fetch\0";
-
-#[test]
-fn writes_settings_as_git_prints_them(rt: HostRuntime) -> Result<(), Fail> {
-    let settings = settings_of(rt.alloc(), PRINTED).unwrap_or(Vec::new(rt.alloc()));
-    let mut out = Vec::new(rt.alloc());
-    write_settings(&mut out, settings.as_slice())?;
-    assert_eq!(rt; out.as_slice(), PRINTED);
-    Ok(())
-}
 
 // As `git config --get` prints it.
 #[test]
@@ -108,12 +100,6 @@ fn parts_keys_at_their_last_dot(rt: HostRuntime) {
 fn finds_remotes(rt: HostRuntime) -> Result<(), Fail> {
     let settings = settings_of(rt.alloc(), CONFIG).unwrap_or(Vec::new(rt.alloc()));
     let settings = settings.as_slice();
-    let values = fetch_values(rt.alloc(), settings)?;
-    let counts: Vec<usize> = values
-        .values()
-        .map(|values| values.len())
-        .collect(rt.alloc())?;
-    assert_eq!(rt; counts.as_slice(), [1, 1].as_slice());
     assert!(rt; has_location(settings, b"origin"));
     assert!(rt; !has_location(settings, b"a.b"));
     assert!(rt; !settings.iter().any(is_ignored));
@@ -121,6 +107,18 @@ fn finds_remotes(rt: HostRuntime) -> Result<(), Fail> {
     assert!(rt; !is_configured(settings, b"pushdefault"));
     assert!(rt; is_rewritten(settings, b"gh:me/repo"));
     assert!(rt; !is_rewritten(settings, b"host:me/repo"));
+    // `git ls-remote nosuch` of Git 2.39.5 looks for /base/nosuch.
+    let empty = Setting {
+        origin: b"file:a",
+        key: b"url./base/.insteadof",
+        value: Some(b""),
+    };
+    let missing = Setting {
+        value: None,
+        ..empty
+    };
+    assert!(rt; is_rewritten(&[missing, empty], b"nosuch"));
+    assert!(rt; !is_rewritten(&[missing], b"nosuch"));
     assert_eq!(rt;
         last_value(settings, b"remote", b"origin", b"url"),
         Some(b"x".as_slice())
@@ -145,6 +143,34 @@ fn finds_remotes(rt: HostRuntime) -> Result<(), Fail> {
         Some(b"a.b".as_slice())
     );
     assert_eq!(rt; default_remote(&[], b"", &[]), None);
+    Ok(())
+}
+
+// As `git config --get-regexp` prints them, by remote.
+#[test]
+fn keeps_the_fetch_values_of_each_remote(rt: HostRuntime) -> Result<(), Fail> {
+    let settings = settings_of(rt.alloc(), PRINTED).unwrap_or(Vec::new(rt.alloc()));
+    let remotes = fetch_values(rt.alloc(), settings.as_slice())?;
+    let names: Vec<&[u8]> = remotes.keys().map(|name| *name).collect(rt.alloc())?;
+    assert_eq!(rt;
+        names.as_slice(),
+        [b"a.b".as_slice(), b"origin".as_slice()].as_slice()
+    );
+    let mut values: Vec<Option<&[u8]>> = Vec::new(rt.alloc());
+    for found in remotes.values() {
+        for setting in found {
+            values.push(setting.value)?;
+        }
+    }
+    assert_eq!(rt;
+        values.as_slice(),
+        [
+            None,
+            Some(b"+refs/heads/*:refs/remotes/origin/*".as_slice()),
+            Some(b"+refs/tags/v1:refs/tags/v1".as_slice()),
+        ]
+        .as_slice()
+    );
     Ok(())
 }
 
@@ -329,6 +355,47 @@ fn knows_the_booleans_of_remotes_and_fetches(rt: HostRuntime) {
     }
 }
 
+// As `git ls-remote` of Git 2.39.5 stops at such a key without `=`, or doesn't.
+#[test]
+fn knows_the_settings_that_need_a_value(rt: HostRuntime) {
+    const CASES: &[(&str, bool)] = &[
+        ("branch.m.remote", true),
+        ("branch.m.pushremote", true),
+        ("branch.a.b.merge", true),
+        ("branch.m.rebase", false),
+        ("branch.m.mergeoptions", false),
+        ("branch.remote", false),
+        ("url.m.insteadof", true),
+        ("url..insteadof", true),
+        ("url.https://host/.pushinsteadof", true),
+        ("url.m.other", false),
+        ("url.insteadof", false),
+        ("remote.pushdefault", true),
+        ("remote.m.pushdefault", false),
+        ("remote.m.url", true),
+        ("remote.m.pushurl", true),
+        ("remote.m.receivepack", true),
+        ("remote.m.uploadpack", true),
+        ("remote.m.proxy", true),
+        ("remote.m.proxyauthmethod", true),
+        ("remote.m.vcs", true),
+        ("remote.m.tagopt", true),
+        ("remote..url", true),
+        ("remote.url", false),
+        ("remote.m.prune", false),
+        ("remote.m.promisor", false),
+        ("remote.m.serveroption", false),
+    ];
+    for (key, needs) in CASES {
+        let setting = Setting {
+            origin: b"file:a",
+            key: key.as_bytes(),
+            value: None,
+        };
+        assert_eq!(rt; needs_value(&setting), *needs, "at {key}");
+    }
+}
+
 // In the form that `bin/git-refspec` reads: the file, the arguments of `git`, an empty line.
 #[test]
 fn requests_git_commands(rt: HostRuntime) -> Result<(), Fail> {
@@ -358,11 +425,13 @@ fn raises_the_status_to_that_of_a_refusal(rt: HostRuntime) -> Result<(), Fail> {
     output.refuse(&Refusal::NoValuesAtAll)?;
     assert_eq!(rt; output.status, 1);
     output.refuse(&Refusal::NotARef(b"a b"))?;
-    output.raise(1);
     assert_eq!(rt; output.status, 2);
-    assert_eq!(rt;
-        output.messages.as_slice(),
-        b"git refspec: no remote has fetch values\ngit refspec: \"a b\" is not a ref\n".as_slice()
+    output.refuse(&Refusal::OtherRefused)?;
+    assert_eq!(rt; output.status, 2);
+    assert!(rt;
+        output.messages.as_slice().starts_with(
+            b"git refspec: no remote has fetch values\ngit refspec: \"a b\" is not a ref\ngit refspec: a value"
+        )
     );
     assert!(rt; output.results.is_empty());
     assert_eq!(rt; Refusal::Memory.status(), 3);
@@ -376,10 +445,16 @@ fn raises_the_status_to_that_of_a_refusal(rt: HostRuntime) -> Result<(), Fail> {
 #[test]
 fn knows_remotes_by_their_files(rt: HostRuntime) -> Result<(), Fail> {
     let settings = settings_of(rt.alloc(), PRINTED).unwrap_or(Vec::new(rt.alloc()));
-    let files = [OldRemote {
-        name: Vec::from_slice(rt.alloc(), b"old")?,
-        folder: String::from_str(rt.alloc(), ".git/remotes")?,
-    }];
+    let files = [
+        OldRemote {
+            name: Vec::from_slice(rt.alloc(), b"old")?,
+            folder: String::from_str(rt.alloc(), ".git/remotes")?,
+        },
+        OldRemote {
+            name: Vec::from_slice(rt.alloc(), b"old")?,
+            folder: String::from_str(rt.alloc(), ".git/branches")?,
+        },
+    ];
     let repository = Repository {
         settings: settings.as_slice(),
         branch: b"main",
@@ -407,13 +482,13 @@ fn knows_remotes_by_their_files(rt: HostRuntime) -> Result<(), Fail> {
     Ok(())
 }
 
-// Which remote and which specs a call with these words means.
+// The remote and the specs of a call with these arguments.
 fn chosen<'a>(
     alloc: Global,
-    words: &[&'a [u8]],
+    arguments: &[&'a [u8]],
     repository: &Repository<'a, 'a>,
 ) -> Result<Choice<'a>, Fail> {
-    let Ok(Purpose::Request(request)) = purpose_of(alloc, words) else {
+    let Ok(Purpose::Request(request)) = purpose_of(alloc, arguments) else {
         return Err(Fail::from(AllocError));
     };
     match choice_of(alloc, &request, repository) {
@@ -422,9 +497,33 @@ fn chosen<'a>(
     }
 }
 
-// As `git fetch` takes its arguments.
+// Why a call with these arguments has no remote.
+fn refused<'a>(
+    alloc: Global,
+    arguments: &[&'a [u8]],
+    repository: &Repository<'a, 'a>,
+) -> Result<Refusal<'a>, Fail> {
+    let Ok(Purpose::Request(request)) = purpose_of(alloc, arguments) else {
+        return Err(Fail::from(AllocError));
+    };
+    match choice_of(alloc, &request, repository) {
+        Ok(_) => Err(Fail::from(AllocError)),
+        Err(refusal) => Ok(refusal),
+    }
+}
+
+// As `git fetch` takes its arguments, and as git-refspec(1) says of `--`.
 #[test]
 fn chooses_remotes_and_specs(rt: HostRuntime) -> Result<(), Fail> {
+    const CASES: &[(&[&[u8]], &[u8], &[&[u8]])] = &[
+        (&[b"plan"], b"origin", &[]),
+        (&[b"plan", b"a.b"], b"a.b", &[]),
+        (&[b"plan", b"main", b"x"], b"main", &[b"x"]),
+        (&[b"plan", b"+a:b", b"c"], b"origin", &[b"+a:b", b"c"]),
+        (&[b"plan", b"--", b"a:b"], b"origin", &[b"a:b"]),
+        (&[b"plan", b"h:p", b"--", b"a"], b"h:p", &[b"a"]),
+        (&[b"plan", b"--remote=x", b"a:b"], b"x", &[b"a:b"]),
+    ];
     let settings = settings_of(rt.alloc(), PRINTED).unwrap_or(Vec::new(rt.alloc()));
     let repository = Repository {
         settings: settings.as_slice(),
@@ -432,41 +531,98 @@ fn chooses_remotes_and_specs(rt: HostRuntime) -> Result<(), Fail> {
         old: &[],
         is_path: false,
     };
-    let words: [&[u8]; 1] = [b"plan"];
-    let choice = chosen(rt.alloc(), &words, &repository)?;
-    assert_eq!(rt;
-        (choice.remote, choice.specs.is_empty()),
-        (b"origin".as_slice(), true)
-    );
-    let words: [&[u8]; 2] = [b"plan", b"a.b"];
-    let choice = chosen(rt.alloc(), &words, &repository)?;
-    assert_eq!(rt;
-        (choice.remote, choice.specs.is_empty()),
-        (b"a.b".as_slice(), true)
-    );
-    let words: [&[u8]; 3] = [b"plan", b"main", b"x"];
-    let choice = chosen(rt.alloc(), &words, &repository)?;
-    let specs: [&[u8]; 1] = [b"x"];
-    assert_eq!(rt;
-        (choice.remote, choice.specs.as_slice()),
-        (b"main".as_slice(), specs.as_slice())
-    );
-    let words: [&[u8]; 3] = [b"plan", b"+a:b", b"c"];
-    let choice = chosen(rt.alloc(), &words, &repository)?;
-    let specs: [&[u8]; 2] = [b"+a:b", b"c"];
-    assert_eq!(rt;
-        (choice.remote, choice.specs.as_slice()),
-        (b"origin".as_slice(), specs.as_slice())
-    );
-    let arguments: [&[u8]; 2] = [b"plan", b"a:b"];
-    let Ok(Purpose::Request(request)) = purpose_of(rt.alloc(), &arguments) else {
-        return Err(Fail::from(AllocError));
+    for (arguments, remote, specs) in CASES {
+        let choice = chosen(rt.alloc(), arguments, &repository)?;
+        assert_eq!(rt; (choice.remote, choice.specs.as_slice()), (*remote, *specs));
+    }
+    Ok(())
+}
+
+#[test]
+fn refuses_calls_without_a_remote(rt: HostRuntime) -> Result<(), Fail> {
+    const CASES: &[(&[&[u8]], &str)] = &[
+        (
+            &[b"plan", b"a:b"],
+            "git refspec: a:b may be a URL or a spec; put the remote before a spec, or `--`, and a URL after --remote\n",
+        ),
+        (
+            &[b"plan", b"g"],
+            "git refspec: g is a group of remotes; name one of them: origin a.b\n",
+        ),
+        (
+            &[b"plan", b"--remote=a\nb"],
+            "git refspec: \"a\\nb\" has a newline, so it names no remote\n",
+        ),
+        (
+            &[b"plan"],
+            "git refspec: no remote is given: the current branch has none, and neither a single one nor origin has a URL\n",
+        ),
+    ];
+    let group = Setting {
+        origin: b"file:a",
+        key: b"remotes.g",
+        value: Some(b" origin\ta.b\n"),
     };
-    assert!(rt;
-        matches!(
-            choice_of(rt.alloc(), &request, &repository),
-            Err(Refusal::UrlOrSpec(b"a:b"))
-        )
-    );
+    let settings = [group];
+    let repository = Repository {
+        settings: &settings,
+        branch: b"",
+        old: &[],
+        is_path: false,
+    };
+    for (arguments, wanted) in CASES {
+        let refusal = refused(rt.alloc(), arguments, &repository)?;
+        let mut message = Vec::new(rt.alloc());
+        refusal.write(&mut message)?;
+        assert_eq!(rt; message.as_slice(), wanted.as_bytes());
+    }
+    Ok(())
+}
+
+// As git-refspec(1) has them under DIAGNOSTICS.
+#[test]
+fn writes_the_messages_of_refusals(rt: HostRuntime) -> Result<(), Fail> {
+    let refusals = [
+        (
+            Refusal::OptionElsewhere("--push", "check"),
+            "git refspec: --push: only check takes this option\n",
+        ),
+        (
+            Refusal::OldForm {
+                name: b"o p",
+                folder: ".git/remotes",
+            },
+            "git refspec: the remote \"o p\" is configured in .git/remotes, which is not read here; `git remote rename \"o p\" \"o p\"` moves it into the configuration\n",
+        ),
+        (
+            Refusal::BadBoolean {
+                origin: b"file:a",
+                key: b"fetch.prune",
+                value: b"maybe",
+            },
+            "git refspec: file:a: fetch.prune: maybe is not a boolean, so Git stops; write true or false\n",
+        ),
+        (
+            Refusal::NoValue {
+                origin: b"file:a",
+                key: b"remote.o.url",
+            },
+            "git refspec: file:a: remote.o.url: the value is missing, so Git stops; write `=` and a value behind the key, or remove its line\n",
+        ),
+        (
+            Refusal::NoSuchOption(b"--x"),
+            "git refspec: there is no option --x\nusage: git refspec check [-v] [--push] [--strict] [--no-warnings] [<remote> | <spec>]...\n   or: git refspec plan [--long] [--all] [--prune] [--refmap <spec>]... [<remote>] [<spec>...]\n   or: git refspec stale [<remote>] [<spec>...]\n   or: git refspec track <ref>...\n   or: git refspec prefixes [--patterns] [<remote>] [<spec>...]\n",
+        ),
+    ];
+    for (refusal, wanted) in &refusals {
+        let mut message = Vec::new(rt.alloc());
+        refusal.write(&mut message)?;
+        assert_eq!(rt; message.as_slice(), wanted.as_bytes());
+    }
+    let missing = Refusal::NoValue {
+        origin: b"file:a",
+        key: b"remote.o.url",
+    };
+    assert_eq!(rt; missing.status(), 1);
     Ok(())
 }

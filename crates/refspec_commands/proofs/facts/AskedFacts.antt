@@ -12,6 +12,7 @@ use Rattle.refspec_io.specs.declared.call.Command.TheVariants as command
 use Rattle.refspec_io.specs.declared.call.Files.{Files}
 use Rattle.refspec_io.specs.declared.call.Form.TheVariants as form
 use Rattle.refspec_io.specs.declared.call.Terminator.TheVariants as ends
+use Rattle.refspec_io.specs.declared.report.Report.{Report}
 use Rattle.refspec_io.specs.Settings.{HasLacking}
 use Rattle.refspec_io.proofs.facts.LackingFacts.{input_alone, input_whole, lacking, not_lacking, read}
 use Rattle.refspec_io.proofs.facts.SettingFacts.{alone, whole}
@@ -72,10 +73,10 @@ not_asked = (
     needless false none own lists same = omega (arith, ap length same, ap length lists)
 
 -- a key without a value is all that is reported, and the call is refused
-pub lacks : (call : Call) (files : Files)
-    → LacksValues (settings_call call) (settings_files files input_whole) input_alone true []
-    × LacksValues (settings_call call) (settings_files files input_alone) [] true []
-lacks call files = (
+pub lacks : (call : Call) (files : Files) (report : Report) → report.results.items ≡ []
+    → LacksValues (settings_call call) (settings_files files input_whole) input_alone report true
+    × LacksValues (settings_call call) (settings_files files input_alone) [] report true
+lacks call files report none = (
   record {
     settings = whole ∷ alone ∷ [];
     read = (
@@ -87,7 +88,7 @@ lacks call files = (
     );
     lacks = lacking.1;
     status = refl;
-    kept = refl;
+    kept = none;
   },
   record {
     settings = alone ∷ [];
@@ -100,17 +101,18 @@ lacks call files = (
     );
     lacks = lacking.0;
     status = refl;
-    kept = refl;
+    kept = none;
   },
 )
 
 -- other calls aren't refused for that, nor is one without such a key, and nothing else is reported
-pub not_lacks : (call : Call) (files : Files) (input : List ℕ)
-    → ¬ (LacksValues (settings_call call) (settings_files files input_alone) [] false [])
-    × ¬ (LacksValues (settings_call call) (settings_files files input_alone) [] true (codes "x"))
-    × ¬ (LacksValues (record (settings_call call) { ends = ends.Newline }) files input true [])
-not_lacks call files input = (
+pub not_lacks : (call : Call) (files : Files) (input : List ℕ) (report other : Report)
+    → other.results.items ≡ codes "x"
+    → ¬ (LacksValues (settings_call call) (settings_files files input_alone) [] report false)
+    × ¬ (LacksValues (settings_call call) (settings_files files input_alone) [] other true)
+    × ¬ (LacksValues (record (settings_call call) { ends = ends.Newline }) files input report true)
+not_lacks call files input report other some = (
   (λ is. false≢true is.status),
-  (λ is. omega (arith, ap length is.kept)),
+  (λ is. omega (arith, ap length is.kept, ap length some)),
   λ is. not_lacking.1 (subst HasLacking is.read is.lacks),
 )

@@ -10,7 +10,7 @@ use Rattle.gix_refspec_lint.specs.Matching.Lint.{Example, Nesting}
 use Rattle.gix_refspec_lint.specs.declared.Reason.TheVariants as reason
 use Rattle.refspec_io.specs.Texts.{Given, at_argument, at_setting}
 use Rattle.refspec_commands.specs.Seen.{HasUnread, Seen, of_key}
-use Rattle.refspec_commands.specs.Warned.{AreAt, FoundOrNone, AreLinesOf, AreSources, AreWithin, IsAmong, IsAtFirst}
+use Rattle.refspec_commands.specs.Warned.{AreAt, FoundOrNone, AreSaidOf, AreSources, AreWithin, IsAmong, IsAtFirst}
 use Rattle.refspec_commands.specs.Warned.{IsExampleMessage, IsForFetch, IsNestingMessage, IsOtherSaid, MayBeFull, Said}
 use Rattle.refspec_commands.specs.Warned.{idle_name, nothing_asked, other_of}
 
@@ -168,9 +168,9 @@ pub by_key : (of_key (codes "remote.o.fetch") (value ∷ other ∷ value ∷ [])
     × (of_key [] (value ∷ other ∷ []) ≡ other ∷ []) × (of_key (codes "remote.p.fetch") (value ∷ other ∷ []) ≡ [])
 by_key = (refl, refl, refl)
 
--- a refused text is noticed, and there are no lines on its group
+-- a refused text is noticed, and there is no warning on its group
 pub unread : HasUnread (value ∷ []) × ¬ (HasUnread [])
 unread = (inl refl, λ has. has)
 
-pub silent : AreLinesOf nothing_asked (value ∷ []) []
+pub silent : AreSaidOf nothing_asked (value ∷ []) []
 silent = inl (inl refl, refl)

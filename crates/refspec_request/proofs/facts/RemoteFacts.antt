@@ -4,7 +4,8 @@ use Rattle.std.proofs.Common.{true, false}
 use Rattle.gix_refspec_text.specs.Texts.Words.{BeginsWith}
 use Rattle.gix_refspec_text.proofs.readers.Texts.{Lacks-tested, begins, begins_not, differ}
 use Rattle.refspec_request.specs.Booleans.{IsBooleanOfFetches, IsBooleanOfRemotes, IsRemoteBoolean}
-use Rattle.refspec_request.specs.Remotes.{IsIgnored, IsOfOther, IsOfRemote, SaysWhere, is_between, members_text}
+use Rattle.refspec_request.specs.Remotes.{IsIgnored, IsOfOther, IsOfRemote, Rewrites, SaysWhere, is_between}
+use Rattle.refspec_request.specs.Remotes.{members_of, members_text}
 use Rattle.refspec_request.specs.Settings.{IsKey}
 use Rattle.refspec_request.proofs.SettingLemmas.{key_once}
 use Rattle.refspec_request.proofs.facts.SettingFacts.{bare, valued}
@@ -14,6 +15,9 @@ fetch_of_o = record { parts = refl; last = Lacks-tested 46 (codes "fetch") refl 
 
 url_of_o : IsKey (codes "remote") (codes "o") (codes "url") (codes "remote.o.url")
 url_of_o = record { parts = refl; last = Lacks-tested 46 (codes "url") refl }
+
+base : IsKey (codes "url") (codes "https://h/") (codes "insteadof") (codes "url.https://h/.insteadof")
+base = record { parts = refl; last = Lacks-tested 46 (codes "insteadof") refl }
 
 slash : IsKey (codes "remote") (codes "/o") (codes "url") (codes "remote./o.url")
 slash = record { parts = refl; last = Lacks-tested 46 (codes "url") refl }
@@ -42,6 +46,18 @@ places = (
     neither : (v : List ℕ) → v ≡ codes "fetch" → (v ≡ codes "url") ⊎ (v ≡ codes "vcs") → ⊥
     neither v e (inl is) = differ (codes "fetch") (codes "url") refl (sym e ∙ is)
     neither v e (inr is) = differ (codes "fetch") (codes "vcs") refl (sym e ∙ is)
+
+-- a value that the URL begins with rewrites it, also an empty one; another one and a missing one don't
+pub rewritten : Rewrites (codes "gh:x") (valued (codes "url.https://h/.insteadof") (codes "gh:"))
+    × Rewrites (codes "gh:x") (valued (codes "url.https://h/.insteadof") [])
+    × ¬ (Rewrites (codes "hg:x") (valued (codes "url.https://h/.insteadof") (codes "gh:")))
+    × ¬ (Rewrites (codes "gh:x") (bare (codes "url.https://h/.insteadof")))
+rewritten = (
+  ((codes "https://h/", codes "insteadof", base, refl), begins (codes "gh:") (codes "gh:x") refl),
+  ((codes "https://h/", codes "insteadof", base, refl), begins [] (codes "gh:x") refl),
+  (λ r. begins_not (codes "gh:") (codes "hg:x") refl r.1),
+  λ r. r.1,
+)
 
 -- Git ignores remotes whose names begin with a slash
 pub ignored : IsIgnored (bare (codes "remote./o.url")) × ¬ (IsIgnored (bare (codes "remote.o.url")))
@@ -83,6 +99,13 @@ pub group_texts : (members_text (codes "g") (valued (codes "remotes.g") (codes "
     × (members_text (codes "g") (valued (codes "remote.g.url") (codes "o p")) ≡ [])
     × (members_text (codes "g") (bare (codes "remotes.g")) ≡ [])
 group_texts = (refl, refl, refl, refl)
+
+-- the remotes of a group, of each of its settings and of no other
+pub members : members_of (codes "g") (valued (codes "remotes.g") (codes " o\tp\n") ∷
+    (valued (codes "remotes.h") (codes "q") ∷ (bare (codes "remotes.g") ∷
+    (valued (codes "remotes.g") (codes "r") ∷ []))))
+    ≡ codes "o" ∷ (codes "p" ∷ (codes "r" ∷ []))
+members = refl
 
 -- a space, a tab and a newline are between remotes, and a comma and a carriage return are not
 pub between : (is_between 32 ≡ true) × (is_between 9 ≡ true) × (is_between 10 ≡ true) × (is_between 44 ≡ false)

@@ -1,7 +1,7 @@
 -- The values of keys in a configuration, as `git config --get` and `--get-all` print them.
-use Rattle.std.proofs.Common.{◌≡◌, ℕ, List, [], ◌∷◌, ◌++◌, Bor, Option, None, Some, codes, map, refl}
+use Rattle.std.proofs.Common.{◌≡◌, ℕ, List, [], ◌∷◌, ◌++◌, Bor, None, Some, codes, map, refl}
 use Rattle.refspec_io.specs.declared.settings.Setting.{Setting}
-use Rattle.refspec_request.specs.Settings.{joined_key, settings_with, shown_settings, value_in, value_of_last}
+use Rattle.refspec_request.specs.Settings.{joined_key, settings_with, value_in, value_of_last}
 
 abbrev pub lent : List ℕ → Bor (List ℕ)
 lent bytes = record { ref_ptr = (0, 0); now = bytes }
@@ -35,9 +35,3 @@ pub last_values : (value_of_last (settings_with (of_o (codes "fetch")) two_remot
     × (value_of_last (settings_with (of_o (codes "tagopt")) two_remotes) ≡ None)
     × (value_of_last (settings_with (of_o (codes "url")) two_remotes) ≡ None)
 last_values = (refl, refl, refl)
-
--- a newline only before a value, and a zero byte after each origin and each setting
-pub printed : shown_settings (valued (codes "a.b") (codes "c") ∷ (bare (codes "d.e") ∷ (valued (codes "f.g") [] ∷ [])))
-    ≡ codes "file:c" ++ (0 ∷ (codes "a.b\nc" ++ (0 ∷ (codes "file:c" ++
-    (0 ∷ (codes "d.e" ++ (0 ∷ (codes "file:c" ++ (0 ∷ (codes "f.g\n" ++ (0 ∷ [])))))))))))
-printed = refl

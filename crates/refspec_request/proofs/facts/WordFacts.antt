@@ -1,8 +1,8 @@
 -- Arguments that look like specs, URLs and paths, both or neither, as git-fetch(1) has them under GIT URLS and
 -- <refspec>.
-use Rattle.std.proofs.Common.{◌≡◌, ◌≢◌, ◌==◌, ◌⊎◌, inl, inr, ℕ, nat_eq, false, true, bytes_eq, List, [], ◌∷◌, ◌++◌}
+use Rattle.std.proofs.Common.{◌≡◌, ◌==◌, ◌⊎◌, inl, inr, ℕ, nat_eq, false, bytes_eq, List, [], ◌∷◌, ◌++◌}
 use Rattle.std.proofs.Common.{codes}
-use Rattle.std.proofs.Common.{refl, sym, subst, ◌∙◌}
+use Rattle.std.proofs.Common.{refl, sym, subst}
 use Rattle.std.specs.List.{list_any, starts_with}
 use Rattle.gix_refspec_text.specs.Texts.Words.{BeginsWith, ContainsText, Lacks}
 use Rattle.gix_refspec_text.proofs.lemmas.lists.LacksLemmas.{Lacks-here, first_once}

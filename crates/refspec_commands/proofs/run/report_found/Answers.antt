@@ -3,25 +3,36 @@ use Rattle.std.proofs.Common.{List, map, subst}
 use Rattle.gix_refspec.specs.Views.Spec.{reading_of}
 use Rattle.gix_refspec_text.specs.declared.spec.RefSpecRef.{RefSpecRef}
 use Rattle.refspec_io.proofs.ShownLemmas.{if_ok}
-use Rattle.refspec_plans.specs.Fetch.{AddsFetch}
+use Rattle.refspec_fetch.specs.Fetch.{AddsFetch}
+use Rattle.refspec_fetch.specs.Report.{report_of}
+use Rattle.refspec_commands.specs.declared.prefixes.report.Notation.{Notation}
+use Rattle.refspec_commands.specs.Prefixes.{AddsAnswer, IsAnswer}
 use Rattle.refspec_commands.proofs.OutputLemmas.{AddsFound-fetch, AddsFound-prefixes, AddsFound-track}
 use Rattle.refspec_commands.proofs.run.report_found.Goals as goal
 
 pub returns-in-Plan : goal.returns-in-Plan
-returns-in-Plan g c = if_ok c.report_fetch.result _ _ c.report_fetch.ensures
-    (λ refused fetch. AddsFound-fetch c.args.task.now.call.now.command c.args.task.now c.args.report.now.form _ _
-    refused _ _ _ c.in-Plan.is
-    (subst (λ (l : List RefSpecRef). AddsFetch c.args.task.now.call.now.command c.args.task.now c.args.report.now.form
-    c.args.report.now.messages.items c.report_fetch.new.report.messages.items refused
-    (map reading_of l) c.args.report.now.results.items c.report_fetch.new.report.results.items) c.as_slice.ensures.value
-    fetch))
+returns-in-Plan c = if_ok c.report_fetch.result _ _ c.report_fetch.ensures
+    (λ refused fetch. AddsFound-fetch c.args.task.now.call.now.command c.args.task.now c.args.report.now
+    c.report_fetch.new.report refused _ c.in-Plan.is
+    (subst (λ (l : List RefSpecRef). AddsFetch c.args.task.now (map reading_of l) refused (report_of c.args.report.now)
+    (report_of c.report_fetch.new.report)) c.as_slice.ensures.value fetch))
 
 pub returns-in-Track : goal.returns-in-Track
-returns-in-Track g c = if_ok c.report_tracking.result _ _ c.report_tracking.ensures
+returns-in-Track c = if_ok c.report_tracking.result _ _ c.report_tracking.ensures
     (λ refused. AddsFound-track c.args.task.now.call.now.command c.args.task.now c.args.report.now.form _ _ refused _ _
     _ c.in-Track.is)
 
-pub returns-in_ok-report_prefixes-in_default : goal.returns-in_ok-report_prefixes-in_default
-returns-in_ok-report_prefixes-in_default g c = AddsFound-prefixes c.args.task.now.call.now.command c.args.task.now
-    c.args.report.now.form _ _ _ _ _ c.in_default.not-Plan c.in_default.not-Stale c.in_default.not-Track
-    c.in_ok-report_prefixes-in_default.ensures
+pub returns-in_ok-report_answer-in_default : goal.returns-in_ok-report_answer-in_default
+returns-in_ok-report_answer-in_default c =
+    let task = c.args.task.now in
+    let old = c.args.report.now in
+    let new = c.report_answer.new.report in
+    let answer = c.in_ok-answer-in_default.answer in
+    AddsFound-prefixes task.call.now.command task old.form _ _ _ _ _ c.in_default.not-Plan c.in_default.not-Stale
+    c.in_default.not-Track (
+      answer,
+      subst (λ (l : List RefSpecRef). IsAnswer (map reading_of l) answer) c.as_slice-in_default.ensures.value
+          c.in_ok-answer-in_default.ensures,
+      subst (λ (n : Notation). AddsAnswer n answer old.form old.results.items new.results.items)
+          c.notation_of.ensures c.in_ok-report_answer-in_default.ensures,
+    )

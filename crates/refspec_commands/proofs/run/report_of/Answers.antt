@@ -6,7 +6,7 @@ use Rattle.refspec_commands.proofs.OutputLemmas.{IsOutput-lacking, IsOutput-of}
 use Rattle.refspec_commands.proofs.run.report_of.Goals as goal
 
 pub returns-clause-ok : goal.returns-clause-ok
-returns-clause-ok g c =
+returns-clause-ok c =
     let call = c.args.call.now in
     let specs = c.args.files.now.specs.now in
     let read = subst (λ (x : List ℕ). AreSettingsOf call.ends specs x c.in_ok-settings.settings.items)
@@ -15,24 +15,22 @@ returns-clause-ok g c =
     let has = subst (λ (l : List Setting). ¬ (HasLacking l)) c.as_slice.ensures.value none in
     let lent = subst (AreSettingsOf call.ends specs _) (sym c.as_slice-2.ensures.value) read in
     let texts = c.in_ok-texts.ensures lent in
-    IsOutput-of call c.args.files.now c.args.input.now c.new-report.result.messages.items
-    c.report_results.new.report.messages.items _ c.in_ok-refused.refused c.new-report.result.form
-    c.as_slice-3.result.now c.in_ok-texts.texts.all.items c.as_slice-4.result.now c.in_ok-all.all.items
-    c.new-report.result.results.items c.report_results.new.report.results.items (
-      c.in_ok-settings.settings.items,
-      read,
-      has,
-    ) texts.0 (record { calls = refl; reads = refl; local = refl; given = texts.1 })
-    c.as_slice-3.ensures.value c.in_ok-all.ensures c.as_slice-4.ensures.value c.new-report.ensures.form
-    c.new-report.ensures.empty c.new-report.ensures.no_message c.in_ok-refused.ensures
+    IsOutput-of call c.args.files.now c.args.input.now _ c.as_slice-3.result.now c.in_ok-texts.texts.all.items
+    c.report_results.new.report c.in_ok-refused.refused (c.in_ok-settings.settings.items, read, has) texts.0
+    (record { calls = refl; reads = refl; local = refl; given = texts.1 }) c.as_slice-3.ensures.value
+    (c.in_ok-refused.ensures (record {
+      form = c.new-report.ensures.form;
+      results = c.new-report.ensures.empty;
+      messages = c.new-report.ensures.no_message;
+    }))
 
 pub returns-then-has_lacking-clause-ok : goal.returns-then-has_lacking-clause-ok
-returns-then-has_lacking-clause-ok g c =
+returns-then-has_lacking-clause-ok c =
     let call = c.args.call.now in
     let specs = c.args.files.now.specs.now in
     let read = subst (λ (x : List ℕ). AreSettingsOf call.ends specs x c.in_ok-settings.settings.items)
     c.spec_input-specs.ensures c.in_ok-settings.ensures.ok in
     let lacks : HasLacking c.as_slice.result.now = rw c.if-has_lacking.true at c.has_lacking.ensures in
-    IsOutput-lacking call c.args.files.now c.args.input.now _ c.in_ok-settings.settings.items c.new-report.result
+    IsOutput-lacking call c.args.files.now c.args.input.now c.in_ok-settings.settings.items c.new-report.result
     c.refuse_lacking.new.report read (subst HasLacking c.as_slice.ensures.value lacks) c.new-report.ensures.form
     c.new-report.ensures.empty c.in_ok-refuse_lacking.ensures

@@ -11,11 +11,11 @@ use Rattle.refspec_commands.proofs.specs.write_spec.Goals as goal
 
 pub returns : goal.returns
 returns c =
+    let shown = c.args.shown.now in
     let at = subst (IsLocation form.Json c.args.text.now.location) (sym c.as_str.ensures.value)
     c.in_ok-location.ensures in
     let name = c.as_str-3.ensures.value ∙ (c.in_ok-canonical.ensures ∙ ap json_text c.as_bytes.ensures) in
-    on_ok c.write_line.result _ _ c.write_line.ensures
-    (WritesSpec-of (kind_name c.args.kind) c.args.text.now (bstring_bytes c.args.canonical.now)
-    (option_map (λ t. t.now) c.args.meaning) (option_map (λ t. t.now) c.args.same_as) c.as_str.result.now
-    c.operation_of.result.now c.as_str-2.result.now c.as_str-3.result.now c.args.out.now.items
-    c.write_line.new.out.items at c.operation_of.ensures (c.as_str-2.ensures.value ∙ c.in_ok-shown.ensures) name)
+    on_ok c.write_line.result _ _ c.write_line.ensures (WritesSpec-of (kind_name shown.kind) c.args.text.now
+    (bstring_bytes shown.canonical.now) (option_map (λ t. t.now) shown.meaning) (option_map (λ t. t.now) shown.same_as)
+    c.as_str.result.now c.operation_of.result.now c.as_str-2.result.now c.as_str-3.result.now c.args.out.now.items
+    c.write_line.new.out.items at c.operation_of.ensures (c.as_str-2.ensures.value ∙ c.in_ok-bytes.ensures) name)

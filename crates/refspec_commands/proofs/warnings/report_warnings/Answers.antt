@@ -1,24 +1,25 @@
--- The warnings are appended.
-use Rattle.std.proofs.Common.{Bool, List, map, subst, sym, ℕ, not}
-use Rattle.refspec_commands.specs.WarnedViews.{seen_of}
-use Rattle.refspec_commands.specs.Warnings.{AreAppended, WarnsIf}
-use Rattle.refspec_commands.proofs.KeyLemmas.{SaysWarnings-of, any_of}
+-- Each warning is reported behind the others.
+use Rattle.std.proofs.Common.{List, map, refl, subst, take_all, ◌∙◌}
+use Rattle.refspec_commands.specs.declared.warnings.Warning.{Warning}
+use Rattle.refspec_commands.specs.Warned.{AddsSaid}
+use Rattle.refspec_commands.specs.WarnedViews.{said_of}
+use Rattle.refspec_commands.proofs.WarnedLemmas.{AddsSaid-next, AddsSaid-start}
 use Rattle.refspec_commands.proofs.warnings.report_warnings.Goals as goal
+
+pub loop-warning-init : goal.loop-warning-init
+loop-warning-init c = record { form = refl; said = AddsSaid-start c.args.report.now.form c.args.report.now }
+
+pub loop-warning-preserved : goal.loop-warning-preserved
+loop-warning-preserved c = record {
+  form = c.in_ok-report.ensures.form ∙ c.loop-warning.invariant.form;
+  said = AddsSaid-next c.args.report.now.form c.loop-warning.report.form c.args.warnings.now
+      c.loop-warning.warning-index
+      c.warning-item.result c.args.report.now c.loop-warning.report c.report.new.report c.loop-warning-test.true
+      c.loop-warning.invariant.form c.warning-item.is c.loop-warning.invariant.said c.in_ok-report.ensures.said;
+}
 
 pub returns : goal.returns
 returns c =
-    let form = c.args.report.now.form in
-    let seen = map seen_of c.args.all.now in
-    let old = c.args.report.now in
-    let new = c.append.new.report in
-    let written = c.write_warnings.new.out.items in
-    subst (λ (b : Bool). WarnsIf b form seen (not c.is_empty.result) old.messages.items new.messages.items
-    old.results.items
-    new.results.items) (sym c.if-not-warns.false) (record {
-      warnings = written;
-      says = SaysWarnings-of form c.new.result seen c.new-written.result.items written c.new.ensures.empty
-          c.new-written.ensures.items c.in_ok-write_warnings.ensures;
-      are = subst (λ (bytes : List ℕ). AreAppended form bytes old.messages.items new.messages.items old.results.items
-          new.results.items) c.as_slice.ensures.value c.in_ok-append.ensures;
-      any = any_of c.write_warnings.new.out c.is_empty.result c.is_empty.ensures;
-    })
+    subst (λ (l : List Warning). AddsSaid c.args.report.now.form (map said_of l) c.args.report.now
+    c.loop-warning.report)
+    (take_all c.loop-warning.warning-index c.args.warnings.now c.loop-warning-test.false) c.loop-warning.invariant.said

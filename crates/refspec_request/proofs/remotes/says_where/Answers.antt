@@ -1,5 +1,5 @@
 -- The name of the key is compared, and its variable tested.
-use Rattle.std.proofs.Common.{◌≡◌, ◌⊎◌, ◌∙◌, ℕ, List, codes, refl, sym}
+use Rattle.std.proofs.Common.{◌≡◌, ◌⊎◌, ◌∙◌, codes, sym}
 use Rattle.std.proofs.lemmas.Bool.{false≢true}
 use Rattle.refspec_request.proofs.SettingLemmas.{key_where, same_bytes}
 use Rattle.refspec_request.proofs.remotes.says_where.Goals as goal

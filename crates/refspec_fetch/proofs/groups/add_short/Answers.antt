@@ -1,0 +1,20 @@
+-- An update that isn't written adds nothing.
+use Rattle.std.proofs.Common.{List, true, false, sym, subst, ◌∙◌}
+use Rattle.gix_refspec_plan.specs.Matching.Plan.{Planned}
+use Rattle.gix_refspec_plan.specs.Views.Plan.{planned_of}
+use Rattle.refspec_io.proofs.ShownLemmas.{on_ok}
+use Rattle.refspec_fetch.specs.Groups.{AddsShort}
+use Rattle.refspec_fetch.proofs.GroupLemmas.{AddsShort-one, AddsShort-start}
+use Rattle.refspec_fetch.proofs.VerdictLemmas.{written-one}
+use Rattle.refspec_fetch.proofs.groups.add_short.Goals as goal
+
+pub returns-then-not-is_written : goal.returns-then-not-is_written
+returns-then-not-is_written c = subst (λ (l : List Planned). AddsShort l c.args.out.now.items c.args.out.now.items)
+    (sym (written-one (planned_of c.args.update.now) false (sym c.is_written.ensures ∙ c.if-not-is_written.true)))
+    (AddsShort-start c.args.out.now.items)
+
+pub returns : goal.returns
+returns c = on_ok c.write_short.result _ _ c.write_short.ensures
+    (λ write. subst (λ (l : List Planned). AddsShort l c.args.out.now.items c.write_short.new.out.items)
+    (sym (written-one (planned_of c.args.update.now) true (sym c.is_written.ensures ∙ c.if-not-is_written.false)))
+    (AddsShort-one (planned_of c.args.update.now) c.args.out.now.items c.write_short.new.out.items write))

@@ -1,0 +1,19 @@
+-- In JSON the report is an object; else the results stay as they were.
+use Rattle.std.proofs.Common.{ℕ, List, subst}
+use Rattle.gix_refspec_plan.specs.Views.Plan.{planned_of}
+use Rattle.refspec_io.proofs.JsonLemmas.{AddsObjects-one}
+use Rattle.refspec_io.proofs.ShownLemmas.{on_ok}
+use Rattle.refspec_fetch.specs.LeftOut.{IsLeftOutLine, IsLeftOutOf}
+use Rattle.refspec_fetch.specs.Verdicts.{unwritable}
+use Rattle.refspec_fetch.proofs.left_out.report_one_left_out.Goals as goal
+
+pub write_left_out_object-requires : goal.write_left_out_object-requires
+write_left_out_object-requires c = c.in_ok-source.ensures
+
+pub returns-in-Json-clause-reported : goal.returns-in-Json-clause-reported
+returns-in-Json-clause-reported c =
+    let out = unwritable c.args.side (planned_of c.args.update.now) in
+    on_ok c.write_left_out_object.result _ _ c.write_left_out_object.ensures
+    (λ write. AddsObjects-one c.args.report.now.form (IsLeftOutOf c.args.texts.now) out write.0
+    c.args.report.now.results.items c.write_left_out_object.new.out.items c.in-Json.is
+    (subst (λ (t : List ℕ). IsLeftOutLine t out write.0) c.text_of-spec.ensures write.1) write.2)

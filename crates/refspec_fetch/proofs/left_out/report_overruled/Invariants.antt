@@ -1,0 +1,17 @@
+-- the updates so far were reported, if they are overruled
+use Rattle.std.proofs.Common.{◌≡◌, ◌≤◌, map, take}
+use Rattle.gix_refspec_plan.specs.Views.Plan.{planned_of}
+use Rattle.refspec_io.specs.Json.{AddsObjects}
+use Rattle.refspec_io.specs.Shown.{Grows}
+use Rattle.refspec_fetch.specs.LeftOut.{IsOverruledOf}
+use Rattle.refspec_fetch.specs.Verdicts.{overruled_of}
+use Rattle.refspec_fetch.proofs.left_out.report_overruled.Given as goal
+
+abbrev pub invariant-loop-update : goal.invariant-loop-update
+invariant-loop-update l = record {
+  form : l.report.form ≡ l.fn.report.form;
+  said : Grows l.fn.report.messages.items l.report.messages.items;
+  reported : AddsObjects l.fn.report.form (IsOverruledOf l.texts)
+      (overruled_of (map planned_of (take l.update-index l.updates))) l.fn.report.results.items l.report.results.items;
+  below : l.count ≤ l.update-index;
+}

@@ -1,0 +1,11 @@
+pub mod Answer
+pub mod Conflicts
+pub mod Fetch
+pub mod Groups
+pub mod LeftOut
+pub mod Missing
+pub mod Origins
+pub mod Report
+pub mod Stale
+pub mod Updates
+pub mod Verdicts

@@ -1,0 +1,7 @@
+mod AnswerLemmas
+mod ConfiguredLemmas
+mod FetchLemmas
+mod GivenLemmas
+mod StopsLemmas
+mod WantedLemmas
+mod facts

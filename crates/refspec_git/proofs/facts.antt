@@ -1,0 +1,4 @@
+pub mod ConfiguredFacts
+pub mod FetchFacts
+pub mod StopsFacts
+pub mod WantedFacts

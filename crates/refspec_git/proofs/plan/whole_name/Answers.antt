@@ -1,0 +1,9 @@
+-- It is what stands before the space.
+use Rattle.std.proofs.Common.{[], ◌∷◌}
+use Rattle.std.proofs.lemmas.Bool.Decides.{Decides-eqb}
+use Rattle.std.proofs.lemmas.Slice.Eq.{strip_suffix_is}
+use Rattle.refspec_git.proofs.plan.whole_name.Goals as goal
+
+pub returns : goal.returns
+returns c =
+    strip_suffix_is Decides-eqb c.args.line.now (32 ∷ []) c.strip_suffix.result c.strip_suffix.ensures.cases

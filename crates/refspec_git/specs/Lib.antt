@@ -1,0 +1,6 @@
+pub mod Answers
+pub mod Configured
+pub mod Fetch
+pub mod Stops
+pub mod Texts
+pub mod Wanted
