@@ -47,6 +47,12 @@ void *__wrap_realloc(void *block, size_t size)
 #else
 #define SMALL_STACK 24576
 #endif
+/* What a thread has to have beside that: on arm64 glibc gives it no less than 128 kB. */
+#ifdef __aarch64__
+#define MORE_STACK (131072 - SMALL_STACK)
+#else
+#define MORE_STACK 0
+#endif
 
 #define BYTES(text) (const uint8_t *)(text), strlen(text)
 
@@ -159,6 +165,36 @@ static void check_parts(void)
     CHECK(is(parts.source, "HEAD") && parts.destination.len == 0);
 }
 
+/* What the text itself says. */
+static const struct {
+    const char *text;
+    uint32_t operation, mode, has_source, has_destination;
+    const char *source, *destination;
+} sides_rows[] = {
+    { "+main", GIX_REFSPEC_FETCH, GIX_REFSPEC_FORCED, 1, 0, "main", "" },
+    { "+@:refs/x", GIX_REFSPEC_FETCH, GIX_REFSPEC_FORCED, 1, 1, "HEAD", "refs/x" },
+    { "", GIX_REFSPEC_FETCH, GIX_REFSPEC_NORMAL, 1, 0, "HEAD", "" },
+    { "^a", GIX_REFSPEC_FETCH, GIX_REFSPEC_NEGATIVE, 1, 0, "a", "" },
+    { "+:d", GIX_REFSPEC_PUSH, GIX_REFSPEC_FORCED, 0, 1, "", "d" },
+    { "+:", GIX_REFSPEC_PUSH, GIX_REFSPEC_FORCED, 0, 0, "", "" },
+    { "main", GIX_REFSPEC_PUSH, GIX_REFSPEC_NORMAL, 1, 0, "main", "" },
+    { "main:main", GIX_REFSPEC_PUSH, GIX_REFSPEC_NORMAL, 1, 1, "main", "main" },
+};
+
+static void check_sides(void)
+{
+    gix_refspec_sides sides = GIX_REFSPEC_SIDES_INIT;
+    for (size_t i = 0; i < sizeof sides_rows / sizeof *sides_rows; i++) {
+        CHECK(gix_refspec_read(BYTES(sides_rows[i].text), sides_rows[i].operation, &sides) == GIX_REFSPEC_OK);
+        CHECK(sides.mode == sides_rows[i].mode);
+        CHECK(sides.has_source == sides_rows[i].has_source && sides.has_destination == sides_rows[i].has_destination);
+        CHECK(is(sides.source, sides_rows[i].source) && is(sides.destination, sides_rows[i].destination));
+    }
+    CHECK(gix_refspec_read(BYTES("a*b*:c"), GIX_REFSPEC_FETCH, &sides) == GIX_REFSPEC_PATTERN_UNSUPPORTED);
+    CHECK(gix_refspec_read(BYTES("main"), 3, &sides) == GIX_REFSPEC_NO_OPERATION);
+    CHECK(sides.mode == GIX_REFSPEC_NORMAL && is(sides.destination, "main"));
+}
+
 static void check_order(void)
 {
     int32_t order = 7;
@@ -189,6 +225,12 @@ static uint32_t canonical(uint8_t *buffer, size_t buffer_len, size_t *len)
     return gix_refspec_canonical(BYTES("+@:refs/x"), GIX_REFSPEC_FETCH, buffer, buffer_len, len);
 }
 
+static uint32_t print_delete(uint8_t *buffer, size_t buffer_len, size_t *len)
+{
+    const gix_refspec_instruction delete = { GIX_REFSPEC_PUSH_DELETE, 1, { BYTES("no side") }, { BYTES("refs/heads/*") } };
+    return gix_refspec_print(&delete, buffer, buffer_len, len);
+}
+
 static void check_buffer(fills *fill, const char *answer)
 {
     size_t needed = strlen(answer), len = 99;
@@ -217,6 +259,28 @@ static void check_buffer(fills *fill, const char *answer)
         CHECK(outcome == GIX_REFSPEC_NO_MEMORY && len == 99 && is_untouched(buffer, sizeof buffer));
     }
     refused = 0;
+}
+
+/* The parts of a text print as its canonical text. */
+static void check_printed(void)
+{
+    uint8_t canonical[64], printed[64];
+    size_t canonical_len = 0, len = 0;
+    gix_refspec_instruction parts = GIX_REFSPEC_PARTS_INIT;
+    for (size_t i = 0; i < sizeof kinds / sizeof *kinds; i++) {
+        uint32_t operation = kinds[i].operation;
+        CHECK(gix_refspec_canonical(BYTES(kinds[i].text), operation, canonical, 64, &canonical_len) == GIX_REFSPEC_OK);
+        CHECK(gix_refspec_parts(BYTES(kinds[i].text), operation, &parts) == GIX_REFSPEC_OK);
+        CHECK(gix_refspec_print(&parts, printed, 64, &len) == GIX_REFSPEC_OK);
+        CHECK(len == canonical_len && memcmp(printed, canonical, len) == 0);
+    }
+    check_buffer(print_delete, ":refs/heads/*");
+    const uint32_t unknown[] = { 0, GIX_REFSPEC_FETCH_AND_UPDATE + 1, UINT32_MAX };
+    len = 99;
+    for (size_t i = 0; i < sizeof unknown / sizeof *unknown; i++) {
+        parts.kind = unknown[i];
+        CHECK(gix_refspec_print(&parts, printed, 64, &len) == GIX_REFSPEC_NO_OPERATION && len == 99);
+    }
 }
 
 /* What Git makes of a name, if a remote has this ref and the command line this spec. */
@@ -292,13 +356,13 @@ static void check_other_texts(void)
 
 static void check_explanations(void)
 {
-    for (uint32_t outcome = 0; outcome <= GIX_REFSPEC_MISSING_SOURCE; outcome++) {
+    for (uint32_t outcome = 0; outcome <= GIX_REFSPEC_INVALID_ID; outcome++) {
         gix_refspec_text sentence = GIX_REFSPEC_TEXT_INIT;
         CHECK(gix_refspec_explanation(outcome, &sentence) == GIX_REFSPEC_OK);
         CHECK(sentence.len > 10 && memchr(sentence.bytes, 0, sentence.len + 1) == sentence.bytes + sentence.len);
         CHECK(sentence.bytes[sentence.len - 1] == '.');
     }
-    const uint32_t unknown[] = { GIX_REFSPEC_MISSING_SOURCE + 1, 99, UINT32_MAX };
+    const uint32_t unknown[] = { GIX_REFSPEC_INVALID_ID + 1, 99, UINT32_MAX };
     for (size_t i = 0; i < sizeof unknown / sizeof *unknown; i++) {
         gix_refspec_text none = TEXT("as it was");
         CHECK(gix_refspec_explanation(unknown[i], &none) == GIX_REFSPEC_NO_OPERATION && is(none, "as it was"));
@@ -469,6 +533,57 @@ static void check_looking_back(void)
     CHECK(gix_refspec_match(back, 4, names, 3, 0, made, 4, buffer, 16, &count, &len) == GIX_REFSPEC_NO_OPERATION);
     CHECK(gix_refspec_match(back, 4, names, 3, 3, made, 4, buffer, 16, &count, &len) == GIX_REFSPEC_NO_OPERATION);
     CHECK(count == 99 && len == 99);
+}
+
+#define ONES "1111111111111111111111111111111111111111"
+#define TWOS "2222222222222222222222222222222222222222"
+
+static const gix_refspec_spec both[] = {
+    { TEXT("+refs/heads/*:refs/x/*"), GIX_REFSPEC_PUSH }, { TEXT("^refs/heads/a"), GIX_REFSPEC_FETCH },
+    { TEXT("b"), GIX_REFSPEC_PUSH }, { TEXT("refs/y:" ONES), GIX_REFSPEC_FETCH }, { TEXT("a:"), GIX_REFSPEC_PUSH },
+};
+static const gix_refspec_ref tagged[] = {
+    { TEXT("refs/heads/a"), TEXT(TWOS), { NULL, 0 } }, { TEXT("refs/heads/b"), TEXT(TWOS), TEXT(ONES) },
+    { TEXT("refs/tags/b"), { NULL, 0 }, { NULL, 0 } }, { TEXT("refs/heads/c"), TEXT("abc"), { NULL, 0 } },
+};
+
+static uint32_t match_both(gix_refspec_mapping *mappings, size_t room, uint8_t *buffer, size_t buffer_len, size_t *count,
+                           size_t *len)
+{
+    return gix_refspec_match_refs(both, 3, tagged, 3, GIX_REFSPEC_FORWARD, mappings, room, buffer, buffer_len, count, len);
+}
+
+static uint32_t match_ids(gix_refspec_mapping *mappings, size_t room, uint8_t *buffer, size_t buffer_len, size_t *count,
+                          size_t *len)
+{
+    return gix_refspec_match_refs(both, 4, tagged, 2, GIX_REFSPEC_BACKWARD, mappings, room, buffer, buffer_len, count, len);
+}
+
+static void check_refs(void)
+{
+    gix_refspec_mapping made[4];
+    uint8_t buffer[16];
+    size_t count = 9, len = 99;
+    check_lists(match_both, 2, "refs/x/b", GIX_REFSPEC_OK, made);
+    CHECK(made[0].spec == 0 && made[0].item == 1 && made[0].has_destination == 1 && made[0].forced == 1);
+    CHECK(made[1].spec == 2 && made[1].item == 2 && made[1].has_destination == 0);
+    check_lists(match_ids, 1, "refs/y", GIX_REFSPEC_OK, made);
+    CHECK(made[0].spec == 3 && made[0].item == 1 && made[0].has_destination == 1 && made[0].id_len == 0);
+    const struct {
+        size_t specs, refs;
+        uint32_t direction, outcome;
+    } rows[] = {
+        { 4, 3, GIX_REFSPEC_BACKWARD, GIX_REFSPEC_NEEDS_IDS }, { 4, 4, GIX_REFSPEC_FORWARD, GIX_REFSPEC_INVALID_ID },
+        { 5, 4, GIX_REFSPEC_BACKWARD, GIX_REFSPEC_PUSH_TO_EMPTY }, { 3, 3, 3, GIX_REFSPEC_NO_OPERATION },
+    };
+    for (size_t i = 0; i < sizeof rows / sizeof *rows; i++)
+        CHECK(gix_refspec_match_refs(both, rows[i].specs, tagged, rows[i].refs, rows[i].direction, made, 4, buffer, 16, &count,
+                                     &len) == rows[i].outcome);
+    const gix_refspec_spec unknown[] = { both[0], { TEXT("a"), 3 } };
+    CHECK(gix_refspec_match_refs(unknown, 2, tagged, 3, GIX_REFSPEC_FORWARD, made, 4, buffer, 16, &count, &len)
+          == GIX_REFSPEC_NO_OPERATION);
+    CHECK(count == 9 && len == 99);
+    CHECK(gix_refspec_match_refs(both, 3, tagged, 3, GIX_REFSPEC_BACKWARD, made, 4, buffer, 16, &count, &len) == 0 && count == 0);
 }
 
 static const gix_refspec_text planned[] = {
@@ -744,6 +859,8 @@ static void *check_all(void *nothing)
     check_places();
     check_kinds();
     check_parts();
+    check_sides();
+    check_printed();
     check_order();
     check_other_texts();
     check_buffer(canonical, "+HEAD:refs/x");
@@ -753,6 +870,7 @@ static void *check_all(void *nothing)
     check_groups();
     check_mappings();
     check_looking_back();
+    check_refs();
     check_verdicts();
     check_other_plans();
     check_wishes();
@@ -764,14 +882,22 @@ static void *check_all(void *nothing)
     return nothing;
 }
 
+static void *check_all_on_small_stack(void *nothing)
+{
+    volatile char taken[MORE_STACK + 1];
+    taken[0] = taken[MORE_STACK] = 0;
+    check_all(nothing);
+    return taken[0] == 0 ? nothing : NULL;
+}
+
 static void check_threads(int count, size_t stack)
 {
     pthread_t threads[4];
     pthread_attr_t attributes;
     pthread_attr_init(&attributes);
-    CHECK(stack == 0 || pthread_attr_setstacksize(&attributes, stack) == 0);
+    CHECK(stack == 0 || pthread_attr_setstacksize(&attributes, stack + MORE_STACK) == 0);
     for (int i = 0; i < count; i++)
-        CHECK(pthread_create(&threads[i], &attributes, check_all, NULL) == 0);
+        CHECK(pthread_create(&threads[i], &attributes, stack == 0 ? check_all : check_all_on_small_stack, NULL) == 0);
     for (int i = 0; i < count; i++)
         CHECK(pthread_join(threads[i], NULL) == 0);
     pthread_attr_destroy(&attributes);

@@ -2,7 +2,7 @@
    standard output: a letter for each, `r` or `w`, and `R` or `W` for one that it fails, to the descriptor in
    TELL. It fails the read or the write whose number, from 1, stands in CALLS_READ or CALLS_WRITE, and
    only that one, as interrupted where CALLS_INTERRUPT is set. Where CALLS_MOST is, the others take at most
-   so many bytes. */
+   so many bytes. Where CALLS_ALL is set, it does so with the reads and writes of all files. */
 #define _GNU_SOURCE
 #include <dlfcn.h>
 #include <errno.h>
@@ -12,6 +12,7 @@
 static ssize_t (*real_read)(int, void *, size_t);
 static ssize_t (*real_write)(int, const void *, size_t);
 static int tell = -1;
+static int all;
 static long failing_read, failing_write, most;
 static int error = EIO;
 static long reads, writes;
@@ -28,6 +29,7 @@ __attribute__((constructor)) static void start(void) {
     failing_read = number_in("CALLS_READ");
     failing_write = number_in("CALLS_WRITE");
     most = number_in("CALLS_MOST");
+    all = getenv("CALLS_ALL") != NULL;
     if (getenv("CALLS_INTERRUPT"))
         error = EINTR;
 }
@@ -45,17 +47,19 @@ static size_t taken(size_t size) {
 }
 
 ssize_t read(int file, void *room, size_t size) {
-    if (file == STDIN_FILENO && fails(++reads, failing_read, "rR")) {
+    int counts = all || file == STDIN_FILENO;
+    if (counts && fails(++reads, failing_read, "rR")) {
         errno = error;
         return -1;
     }
-    return real_read(file, room, file == STDIN_FILENO ? taken(size) : size);
+    return real_read(file, room, counts ? taken(size) : size);
 }
 
 ssize_t write(int file, const void *bytes, size_t size) {
-    if (file == STDOUT_FILENO && fails(++writes, failing_write, "wW")) {
+    int counts = all || file == STDOUT_FILENO;
+    if (counts && fails(++writes, failing_write, "wW")) {
         errno = error;
         return -1;
     }
-    return real_write(file, bytes, file == STDOUT_FILENO ? taken(size) : size);
+    return real_write(file, bytes, counts ? taken(size) : size);
 }

@@ -66,7 +66,7 @@ if ! ldconfig -p 2>/dev/null | grep -qF "$soname"; then
 fi
 echo "bindings: Python loads the library that is named, beside the module, or installed, and refuses another"
 
-# ---- Rust: the folder that GIX_REFSPEC_FOLDER names, or else that of pkg-config
+# ---- Rust: the folder that GIX_REFSPEC_FOLDER names, or else the crate's own copy, if that is asked for, or else that of pkg-config
 
 if ! command -v cargo >/dev/null; then
     echo "bindings: left out is the script that builds the crate in Rust, as there is no cargo"
@@ -90,7 +90,8 @@ else
         [ $status = 1 ] && [ "$(cat "$made/err")" = "$1" ] || fail "with ${*:2} status $status, and $(cat "$made/err")"
     }
     known="pkg-config knows no libgix_refspec.a of version $series: install it, and name the folder below which it is in the \
-environment variable GIX_REFSPEC_FOLDER, or the one with gix_refspec.pc in PKG_CONFIG_PATH."
+environment variable GIX_REFSPEC_FOLDER, or the one with gix_refspec.pc in PKG_CONFIG_PATH; or use the crate's own copy, by the \
+feature \`vendored\`."
     mkdir -p "$made/pc" "$made/empty" "$made/two/lib"
     cp "$folder/lib/libgix_refspec.a" "$made/two"
     links "$made/two" GIX_REFSPEC_FOLDER="$made/two"
@@ -112,7 +113,16 @@ environment variable GIX_REFSPEC_FOLDER, or the one with gix_refspec.pc in PKG_C
     done
     sed "s|^libdir=.*|libdir=$made/empty|" "$folder/lib/pkgconfig/gix_refspec.pc" >"$made/pc/gix_refspec.pc"
     says "$known" PKG_CONFIG_LIBDIR="$made/pc"
-    echo "bindings: the crate in Rust links the archive that is named, or that of pkg-config, and else says what to do"
+    own=(CARGO_FEATURE_VENDORED=1 CARGO_MANIFEST_DIR="$made/crate" CARGO_CFG_TARGET_OS=linux PKG_CONFIG_LIBDIR="$folder/lib/pkgconfig")
+    none="The feature \`vendored\` has no libgix_refspec.a for %s: only the packaged crate has copies, for x86_64-linux and \
+aarch64-linux. Name the folder below which it is in the environment variable GIX_REFSPEC_FOLDER."
+    mkdir -p "$made/crate/vendored/x86_64"
+    cp "$folder/lib/libgix_refspec.a" "$made/crate/vendored/x86_64"
+    links "$made/crate/vendored/x86_64" "${own[@]}" CARGO_CFG_TARGET_ARCH=x86_64
+    links "$made/two/lib" "${own[@]}" CARGO_CFG_TARGET_ARCH=x86_64 GIX_REFSPEC_FOLDER="$made/two"
+    says "$(printf "$none" aarch64-linux)" "${own[@]}" CARGO_CFG_TARGET_ARCH=aarch64
+    says "$(printf "$none" x86_64-macos)" "${own[@]}" CARGO_CFG_TARGET_ARCH=x86_64 CARGO_CFG_TARGET_OS=macos
+    echo "bindings: the crate in Rust links the archive that is named, its own, or that of pkg-config, and else says what to do"
 fi
 
 # ---- cmake, also where a folder on the way to the library is a symbolic link

@@ -1,10 +1,10 @@
 #!/usr/bin/env python3
-"""Builds the package, for pip by PEP 517 and 660; and its sources and a wheel with the shared library:
+"""Builds the package, for pip by PEP 517 and 660; and its sources, and a wheel with each of these shared libraries:
 
-    build_backend.py LIBRARY FOLDER
+    build_backend.py LIBRARY.. FOLDER
 
 It needs nothing but Python, so that `pip install` of this folder works without a network. Times are those of SOURCE_DATE_EPOCH,
-and names are in order, so that the bytes are always the same. A wheel with a library is tagged by the glibc that it asks for.
+and names are in order, so that the bytes are always the same. A wheel with a library is for any Linux with its processor.
 """
 import base64
 import gzip
@@ -51,10 +51,13 @@ def metadata() -> Tuple[str, bytes]:
 
 
 def tags_of(library: str) -> List[str]:
-    """The platforms with all that a library asks for. Of glibc 2 no older one than 17 is in use."""
-    told = subprocess.run(["readelf", "-V", library], stdout=subprocess.PIPE, text=True, check=True).stdout
-    glibc = max([17, *map(int, re.findall(r"GLIBC_2\.(\d+)", told))])
-    return [f"manylinux_2_{glibc}_x86_64", *(["manylinux2014_x86_64"] if glibc == 17 else [])]
+    """The platforms of a shared library that asks for no other, so for glibc and for musl: the oldest that the tags can tell."""
+    told = subprocess.run(["readelf", "-h", "-d", "-V", library], stdout=subprocess.PIPE, text=True, check=True,
+                          env={**os.environ, "LC_ALL": "C"}).stdout
+    processor = {"Advanced Micro Devices X86-64": "x86_64", "AArch64": "aarch64"}[re.findall(r"Machine: +(.*)", told)[0]]
+    if "(NEEDED)" in told or "GLIBC_" in told:
+        sys.exit(f"{library} asks for another library")
+    return [f"{system}_{processor}" for system in ("manylinux_2_17", "manylinux2014", "musllinux_1_1")]
 
 
 def record_of(files: Files, name: str) -> bytes:
@@ -115,12 +118,13 @@ def build_sdist(sdist_directory: str, config_settings: Settings = None) -> str:
 
 
 def main() -> None:
-    if len(sys.argv) != 3:
+    if len(sys.argv) < 3:
         sys.exit(__doc__)
-    library, folder = sys.argv[1:]
+    folder = sys.argv[-1]
     soname = re.findall(r'^_SONAME = "(.*)"$', read(PACKAGE[0]).decode(), re.M)
-    with open(library, "rb") as file:
-        print(write_wheel(folder, tags_of(library), [*package(), (f"gix_refspec/{soname[0]}", file.read())]))
+    for library in sys.argv[1:-1]:
+        with open(library, "rb") as file:
+            print(write_wheel(folder, tags_of(library), [*package(), (f"gix_refspec/{soname[0]}", file.read())]))
     print(build_sdist(folder))
 
 

@@ -15,9 +15,9 @@ from dataclasses import dataclass
 from typing import Callable, Iterable, List, Optional, Tuple, Union
 
 __version__ = "0.3.0"
-__all__ = ["Direction", "Kind", "Mapping", "Operation", "Origin", "OriginKind", "Outcome", "Plan", "RefspecError",
-           "Side", "Spec", "StaleRef", "Update", "Verdict", "compare", "explanation", "library_version", "matches",
-           "parse", "plan", "prefixes", "stale"]
+__all__ = ["Direction", "Kind", "Mapping", "Mode", "Operation", "Origin", "OriginKind", "Outcome", "Plan", "RefspecError",
+           "Side", "Sides", "Spec", "StaleRef", "Update", "Verdict", "compare", "explanation", "library_version", "matches",
+           "parse", "plan", "prefixes", "read", "stale"]
 
 # The soname, so that no library is loaded that this module wasn't written for.
 _SONAME = "libgix_refspec.so.0.3"
@@ -58,6 +58,14 @@ class Outcome(enum.IntEnum):
     NEEDS_IDS = 21
     IN_CONFLICT = 22
     MISSING_SOURCE = 23
+    INVALID_ID = 24
+
+
+class Mode(enum.IntEnum):
+    """What the sign of a refspec says: none, `+` or `^`."""
+    NORMAL = 1
+    FORCED = 2
+    NEGATIVE = 3
 
 
 class Side(enum.IntEnum):
@@ -179,6 +187,15 @@ class Spec:
         return self.kind, self.source or b"", self.destination or b"", self.forced
 
 
+@dataclass(frozen=True)
+class Sides:
+    """What the text of a refspec says: its mode, and the sides that it has. The source is HEAD for `@`, and where a fetch
+    has none."""
+    mode: Mode
+    source: Optional[bytes]
+    destination: Optional[bytes]
+
+
 # Fetches to match by: texts, or what parse made of them.
 Fetches = Iterable[Union[Text, Spec]]
 
@@ -256,6 +273,20 @@ def parse(text: Text, operation: Operation) -> Spec:
     _check(_library.gix_refspec_parts(canonical, len(canonical), operation, ctypes.byref(parts)))
     return Spec(operation, canonical, Kind(parts.kind), parts.forced == 1, parts.source.value() or None,
                 parts.destination.value() or None)
+
+
+def read(text: Text, operation: Operation) -> Sides:
+    """The mode of a refspec and its sides, as the text has them: a deletion keeps its sign, and a push of `main` has no
+    destination. Raises RefspecError if it isn't a refspec.
+
+    >>> read("+main", Operation.FETCH)
+    Sides(mode=<Mode.FORCED: 2>, source=b'main', destination=None)
+    """
+    sides, one = _Sides(0, 0, 0, _Told.empty(), _Told.empty()), _bytes(text)
+    # The sides are places in the text, or constants of the library.
+    _check(_library.gix_refspec_read(*one, Operation(operation), ctypes.byref(sides)))
+    return Sides(Mode(sides.mode), sides.source.value() if sides.has_source else None,
+                 sides.destination.value() if sides.has_destination else None)
 
 
 def compare(a: Text, b: Text, operation: Operation) -> int:
@@ -373,6 +404,11 @@ class _Parts(ctypes.Structure):
     _fields_ = [("kind", ctypes.c_uint32), ("forced", ctypes.c_uint32), ("source", _Told), ("destination", _Told)]
 
 
+class _Sides(ctypes.Structure):
+    _fields_ = [("mode", ctypes.c_uint32), ("has_source", ctypes.c_uint32), ("has_destination", ctypes.c_uint32),
+                ("source", _Told), ("destination", _Told)]
+
+
 class _Span(ctypes.Structure):
     _fields_ = [("side", ctypes.c_uint32), ("start", ctypes.c_size_t), ("len", ctypes.c_size_t)]
 
@@ -436,6 +472,7 @@ def _declare(library: ctypes.CDLL) -> None:
     lists = [ctypes.POINTER(_Mapping), size, text, size, sizes, sizes]
     for name, types in (
             ("parts", [*one, number, ctypes.POINTER(_Parts)]),
+            ("read", [*one, number, ctypes.POINTER(_Sides)]),
             ("locate", [*one, number, ctypes.POINTER(_Span)]),
             ("canonical", [*one, number, text, size, sizes]),
             ("compare", [*one, *one, number, ctypes.POINTER(ctypes.c_int32)]),

@@ -12,9 +12,9 @@ import unittest
 from typing import Callable
 
 import gix_refspec
-from gix_refspec import (Direction, Kind, Mapping, Operation, Origin, OriginKind, Outcome, Plan, RefspecError, Side,
-                         StaleRef, Update, Verdict, compare, explanation, library_version, matches, parse, plan,
-                         prefixes, stale)
+from gix_refspec import (Direction, Kind, Mapping, Mode, Operation, Origin, OriginKind, Outcome, Plan, RefspecError, Side,
+                         Sides, StaleRef, Update, Verdict, compare, explanation, library_version, matches, parse, plan,
+                         prefixes, read, stale)
 
 
 class Lying(bytes):
@@ -57,6 +57,13 @@ class Calls(unittest.TestCase):
                 self.assertIs(spec.kind, kind)
                 self.assertEqual((spec.operation, spec.forced), (operation, text.startswith(b"+")))
                 self.assertEqual((spec.source, spec.destination), (source, destination))
+
+    def test_sides_are_those_of_the_text(self) -> None:
+        self.assertEqual(read("+:d", Operation.PUSH), Sides(Mode.FORCED, None, b"d"))
+        self.assertEqual(read("main", Operation.PUSH), Sides(Mode.NORMAL, b"main", None))
+        self.assertEqual(read("^a", Operation.FETCH), Sides(Mode.NEGATIVE, b"a", None))
+        with self.assertRaises(RefspecError):
+            read("a b", Operation.FETCH)
 
     def test_texts_are_bytes_or_utf_8(self) -> None:
         for text in ("main", "\u00e9t\u00e9", "\udce9", "\U0001f600"):
@@ -179,7 +186,7 @@ class Calls(unittest.TestCase):
     def test_explanations(self) -> None:
         for outcome in Outcome:
             self.assertTrue(explanation(outcome).endswith("."), outcome)
-        self.assertEqual([explanation(number) for number in (-1, 24, 2 ** 32)], [None] * 3)
+        self.assertEqual([explanation(number) for number in (-1, 25, 2 ** 32)], [None] * 3)
 
     def test_versions(self) -> None:
         self.assertEqual(library_version(), gix_refspec.__version__)

@@ -1,5 +1,5 @@
 //! Links `libgix_refspec.a`: of the folder that it was installed below, which the environment variable
-//! `GIX_REFSPEC_FOLDER` names, and else of the one that pkg-config knows.
+//! `GIX_REFSPEC_FOLDER` names; else, with the feature `vendored`, the crate's own copy; and else that of pkg-config.
 use std::env;
 use std::ffi::OsStr;
 use std::path::{Path, PathBuf};
@@ -15,6 +15,7 @@ fn main() {
     println!("cargo:rerun-if-changed=build.rs");
     let found = match env::var_os(VARIABLE) {
         Some(folder) => named_folder(&folder),
+        None if env::var_os("CARGO_FEATURE_VENDORED").is_some() => own_folder(),
         None => known_folder(),
     };
     let folder = found.unwrap_or_else(|sentence| {
@@ -44,6 +45,20 @@ fn named_folder(named: &OsStr) -> Result<PathBuf, String> {
     }
 }
 
+/// The folder of the crate's own copy for the target. Else a sentence on what is wrong.
+fn own_folder() -> Result<PathBuf, String> {
+    let told = |name| env::var(name).unwrap_or_default();
+    let (processor, system) = (told("CARGO_CFG_TARGET_ARCH"), told("CARGO_CFG_TARGET_OS"));
+    let folder = Path::new(&told("CARGO_MANIFEST_DIR")).join("vendored").join(&processor);
+    if system == "linux" && folder.join(ARCHIVE).exists() {
+        return Ok(folder);
+    }
+    Err(format!(
+        "The feature `vendored` has no {ARCHIVE} for {processor}-{system}: only the packaged crate has copies, for x86_64-linux and \
+         aarch64-linux. Name the folder below which it is in the environment variable {VARIABLE}."
+    ))
+}
+
 /// The folder of the static library of this version, as pkg-config knows it. Else a sentence on what is wrong.
 fn known_folder() -> Result<PathBuf, String> {
     // Before 1.0 every new minor version may break its callers.
@@ -55,7 +70,8 @@ fn known_folder() -> Result<PathBuf, String> {
     }
     Err(format!(
         "pkg-config knows no {ARCHIVE} of version {major}.{minor}: install it, and name the folder below which it is in the \
-         environment variable {VARIABLE}, or the one with gix_refspec.pc in PKG_CONFIG_PATH."
+         environment variable {VARIABLE}, or the one with gix_refspec.pc in PKG_CONFIG_PATH; or use the crate's own copy, by the \
+         feature `vendored`."
     ))
 }
 

@@ -34,7 +34,7 @@ enum {
     GIX_REFSPEC_NAME_REFLOG_PORTION = 14, GIX_REFSPEC_NAME_ASTERISK = 15, GIX_REFSPEC_NAME_INVALID_BYTE = 16,
     GIX_REFSPEC_NO_LIST = 17, GIX_REFSPEC_TOO_SMALL = 18, GIX_REFSPEC_NO_MEMORY = 19,
     GIX_REFSPEC_NO_OPERATION = 20, GIX_REFSPEC_NEEDS_IDS = 21, GIX_REFSPEC_IN_CONFLICT = 22,
-    GIX_REFSPEC_MISSING_SOURCE = 23
+    GIX_REFSPEC_MISSING_SOURCE = 23, GIX_REFSPEC_INVALID_ID = 24
 };
 
 /* Kinds of instructions. */
@@ -56,6 +56,19 @@ typedef struct {
 } gix_refspec_instruction;
 #define GIX_REFSPEC_PARTS_INIT { 0, 0, GIX_REFSPEC_TEXT_INIT, GIX_REFSPEC_TEXT_INIT }
 
+/* The modes of refspecs: without a sign, `+` and `^`. */
+enum { GIX_REFSPEC_NORMAL = 1, GIX_REFSPEC_FORCED = 2, GIX_REFSPEC_NEGATIVE = 3 };
+
+/* What the text of a refspec says, where gix_refspec_instruction is what it means: a deletion and a fetch without a
+ * destination keep their sign, and a push of `main` has no destination, though its instruction pushes to `main`.
+ * has_source and has_destination are 1 or 0. A missing side is empty; a present one never is. Sides point into the
+ * text; the source HEAD, for `@` and where a fetch has none, is a constant. */
+typedef struct {
+    uint32_t mode, has_source, has_destination;
+    gix_refspec_text source, destination;
+} gix_refspec_sides;
+#define GIX_REFSPEC_SIDES_INIT { 0, 0, 0, GIX_REFSPEC_TEXT_INIT, GIX_REFSPEC_TEXT_INIT }
+
 /* The wrong bytes of a refused text: len bytes from the index start on, all in one side. If no bytes are wrong, side,
  * start and len are 0. */
 enum { GIX_REFSPEC_SOURCE = 1, GIX_REFSPEC_DESTINATION = 2 };
@@ -72,6 +85,18 @@ typedef struct {
     size_t len;
 } gix_refspec_made;
 #define GIX_REFSPEC_MADE_INIT { 0, 0, 0 }
+
+/* The text of a refspec, and what it is for. */
+typedef struct {
+    gix_refspec_text text;
+    uint32_t operation;
+} gix_refspec_spec;
+
+/* A ref: its full name; the id of its object, in 40 or 64 hex digits, or empty if that isn't known; and for an
+ * annotated tag the id of the tagged object, or empty. */
+typedef struct {
+    gix_refspec_text name, target, object;
+} gix_refspec_ref;
 
 /* Which sides of fetches are matched: the sources, or the destinations. */
 enum { GIX_REFSPEC_FORWARD = 1, GIX_REFSPEC_BACKWARD = 2 };
@@ -146,6 +171,14 @@ uint32_t gix_refspec_locate(const uint8_t *text, size_t text_len, uint32_t opera
 /* Its instruction. */
 uint32_t gix_refspec_parts(const uint8_t *text, size_t text_len, uint32_t operation, gix_refspec_instruction *parts);
 
+/* Its mode and its sides. If a side has several stars, gix_refspec_locate tells which one. */
+uint32_t gix_refspec_read(const uint8_t *text, size_t text_len, uint32_t operation, gix_refspec_sides *sides);
+
+/* The canonical text of an instruction: of a refspec, if gix_refspec_parts has told it. Of one made by hand the text
+ * may be no refspec. Sides that its kind lacks don't count, and forced only where the kind has it: then any number
+ * but 0 is yes. *len is set as by canonical. GIX_REFSPEC_NO_OPERATION if the kind is unknown. */
+uint32_t gix_refspec_print(const gix_refspec_instruction *parts, uint8_t *buffer, size_t buffer_len, size_t *len);
+
 /* Its canonical text. *len is set to the bytes needed, also at GIX_REFSPEC_TOO_SMALL. */
 uint32_t gix_refspec_canonical(const uint8_t *text, size_t text_len, uint32_t operation, uint8_t *buffer,
                                size_t buffer_len, size_t *len);
@@ -185,6 +218,14 @@ uint32_t gix_refspec_prefixes(const gix_refspec_text *texts, size_t count, uint3
 uint32_t gix_refspec_match(const gix_refspec_text *texts, size_t texts_count, const gix_refspec_text *names,
                            size_t names_count, uint32_t direction, gix_refspec_mapping *mappings,
                            size_t mappings_count, uint8_t *buffer, size_t buffer_len, size_t *count, size_t *len);
+
+/* How specs map refs, each read for its own operation: the refs of a remote to local ones by fetches, local ones to
+ * those of a remote by pushes. Ids count backward only, for a spec whose destination is one: GIX_REFSPEC_NEEDS_IDS
+ * if there is such a spec and the target of some ref isn't known. GIX_REFSPEC_INVALID_ID if a target or object has
+ * other than 40 or 64 hex digits. In the mappings item is the index of the ref. *count and *len are set as by match. */
+uint32_t gix_refspec_match_refs(const gix_refspec_spec *specs, size_t specs_count, const gix_refspec_ref *refs,
+                                size_t refs_count, uint32_t direction, gix_refspec_mapping *mappings,
+                                size_t mappings_count, uint8_t *buffer, size_t buffer_len, size_t *count, size_t *len);
 
 /* What a fetch writes, if the remote has these names. At GIX_REFSPEC_MISSING_SOURCE and GIX_REFSPEC_IN_CONFLICT nothing
  * is fetched, but mappings and buffer are filled. *count and *len are set as by match. */

@@ -2,7 +2,11 @@ pub mod OutcomeLemmas
 pub mod SingleLemmas
 pub mod GroupLemmas
 pub mod MatchingLemmas
+pub mod RefsLemmas
 pub mod NamingLemmas
 pub mod BufferFacts
 pub mod SpanFacts
+pub mod SidesFacts
+pub mod PrintingFacts
+pub mod RefsFacts
 pub mod PlanningLemmas

@@ -17,8 +17,7 @@ use Rattle.gix_refspec.specs.Matching.Mappings.{Mapped}
 use Rattle.gix_refspec_c.specs.declared.listing.MappingOut.{MappingOut}
 use Rattle.gix_refspec_c.specs.Mapping.{Entry, IsNotWritten, LacksAll, Room, Describes, backward_entry, forward_entry}
 use Rattle.gix_refspec_c.specs.Mapping.{text_of, texts_of, described_at, described_by, described_from}
-use Rattle.gix_refspec.specs.Laws.Items.{AsksForNoId}
-use Rattle.gix_refspec_c.specs.Matching.{AreMatched, nameless}
+use Rattle.gix_refspec_c.specs.Matching.{AreMatched, Keeps, Lists, NamesSuffice, entry_of, nameless}
 
 -- what follows a listing of some mappings
 described_more : (at : ℕ) (es : List Entry) (e : Entry) → described_from at (es ++ e ∷ []) ≡ described_from at es
@@ -82,48 +81,53 @@ no_room Is Why es structs text before after (Ok u) is describes small = tt
 no_room Is Why es structs text before after (Err f) is describes small =
     inl (small.0, es, is, record { structs = structs; text = text; describes = describes; not_write = small.1 })
 
--- what is listed from left to right tells of what is matched
-pub matched_forward : (d : Direction) (texts names : List (List ℕ)) (group g : List Reading) (refs : List Ref)
-    (kept : List Mapped) (r : Result Listing Failure) → d ≡ Forward → g ≡ group → AllZip (Reads Fetch) texts group
-    → refs ≡ map nameless names → AreKeptForward group refs kept
+-- what is listed from left to right are the mappings that the group keeps
+pub lists_forward : (d : Direction) (group g : List Reading) (refs : List Ref) (kept : List Mapped)
+    (r : Result Listing Failure) → d ≡ Forward → g ≡ group → AreKeptForward group refs kept
     → IfOk r (λ l. Describes (map (forward_entry g) kept) l.mappings.items l.text.items)
-    → IfOk r (λ l. (es : List Entry) × AreMatched d texts names es × Describes es l.mappings.items l.text.items)
-matched_forward d texts names group g refs kept (Err f) is whole read same stay describes = tt
-matched_forward d texts names group g refs kept (Ok l) is whole read same stay describes =
-    let matched : AreMatched Forward texts names (map (forward_entry group) kept) =
+    → IfOk r (λ l. Lists d group refs l.mappings.items l.text.items)
+lists_forward d group g refs kept (Err f) is whole keeps describes = tt
+lists_forward d group g refs kept (Ok l) is whole keeps describes =
+    let lists : Lists Forward group refs l.mappings.items l.text.items =
     record {
-      group = group;
-      read = read;
       kept = kept;
-      stay = subst (λ (rs : List Ref). AreKeptForward group rs kept)
-          same stay;
-      are = refl;
-    } in (
-      map (forward_entry group) kept,
-      subst (λ (e : Direction). AreMatched e texts names (map (forward_entry group) kept)) (sym is) matched,
-      subst (λ (specs : List Reading). Describes (map (forward_entry specs) kept) l.mappings.items l.text.items) whole
-          describes,
-    )
+      keeps = keeps;
+      describes = subst (λ (specs : List Reading). Describes (map (forward_entry specs) kept) l.mappings.items
+          l.text.items) whole describes;
+    } in
+    subst (λ (e : Direction). Lists e group refs l.mappings.items l.text.items) (sym is) lists
 
--- and so it is from right to left, where no destination is an id
-pub matched_backward : (d : Direction) (texts names : List (List ℕ)) (group g : List Reading) (refs : List Ref)
-    (kept : List Mapped) (r : Result Listing Failure) → d ≡ Backward → g ≡ group → AllZip (Reads Fetch) texts group
-    → refs ≡ map nameless names → AreKeptBackward group refs kept → AsksForNoId group
+-- and so it is from right to left
+pub lists_backward : (d : Direction) (group g : List Reading) (refs : List Ref) (kept : List Mapped)
+    (r : Result Listing Failure) → d ≡ Backward → g ≡ group → AreKeptBackward group refs kept
     → IfOk r (λ l. Describes (map (backward_entry g) kept) l.mappings.items l.text.items)
-    → IfOk r (λ l. (es : List Entry) × AreMatched d texts names es × Describes es l.mappings.items l.text.items)
-matched_backward d texts names group g refs kept (Err f) is whole read same stay by describes = tt
-matched_backward d texts names group g refs kept (Ok l) is whole read same stay by describes =
-    let matched : AreMatched Backward texts names (map (backward_entry group) kept) =
+    → IfOk r (λ l. Lists d group refs l.mappings.items l.text.items)
+lists_backward d group g refs kept (Err f) is whole keeps describes = tt
+lists_backward d group g refs kept (Ok l) is whole keeps describes =
+    let lists : Lists Backward group refs l.mappings.items l.text.items =
     record {
-      group = group;
-      read = read;
       kept = kept;
-      stay =
-          (subst (λ (rs : List Ref). AreKeptBackward group rs kept) same stay, by);
-      are = refl;
-    } in (
-      map (backward_entry group) kept,
-      subst (λ (e : Direction). AreMatched e texts names (map (backward_entry group) kept)) (sym is) matched,
-      subst (λ (specs : List Reading). Describes (map (backward_entry specs) kept) l.mappings.items l.text.items)
-          whole describes,
-    )
+      keeps = keeps;
+      describes = subst (λ (specs : List Reading). Describes (map (backward_entry specs) kept) l.mappings.items
+          l.text.items) whole describes;
+    } in
+    subst (λ (e : Direction). Lists e group refs l.mappings.items l.text.items) (sym is) lists
+
+-- if names decide, what a group keeps over refs with these names is what is matched
+pub lists_matched : (d : Direction) (texts names : List (List ℕ)) (group : List Reading) (refs : List Ref)
+    (r : Result Listing Failure) → AllZip (Reads Fetch) texts group → NamesSuffice d group → refs ≡ map nameless names
+    → IfOk r (λ l. Lists d group refs l.mappings.items l.text.items)
+    → IfOk r (λ l. (es : List Entry) × AreMatched d texts names es × Describes es l.mappings.items l.text.items)
+lists_matched d texts names group refs (Err f) read suffice same lists = tt
+lists_matched d texts names group refs (Ok l) read suffice same lists = (
+  map (entry_of d group) lists.kept,
+  record {
+    group = group;
+    read = read;
+    by_names = suffice;
+    kept = lists.kept;
+    keeps = subst (λ (rs : List Ref). Keeps d group rs lists.kept) same lists.keeps;
+    are = refl;
+  },
+  lists.describes,
+)

@@ -10,3 +10,6 @@ pub mod Planning
 pub mod Stale
 pub mod Span
 pub mod Naming
+pub mod Sides
+pub mod Printing
+pub mod Refs

@@ -13,7 +13,8 @@ use Rattle.gix_refspec_c.specs.declared.failure.Failure.TheVariants as failure
 use Rattle.gix_refspec_c.specs.declared.matching.Direction.{Direction}
 use Rattle.gix_refspec_c.specs.declared.matching.Direction.TheVariants.{Forward, Backward}
 use Rattle.gix_refspec_c.specs.Group.{AreUnread}
-use Rattle.gix_refspec_c.specs.Mapping.{Entry, forward_entry, backward_entry}
+use Rattle.gix_refspec_c.specs.declared.listing.MappingOut.{MappingOut}
+use Rattle.gix_refspec_c.specs.Mapping.{Describes, Entry, forward_entry, backward_entry}
 
 -- the number of a direction
 abbrev pub direction_code : Direction → ℕ
@@ -24,22 +25,35 @@ direction_code Backward = 2
 abbrev pub nameless : List ℕ → Ref
 nameless n = record { name = n; target = replicate 20 0; object = None }
 
--- what stays in a direction. From right to left only names count
-abbrev pub Stay : Direction → List Reading → List Ref → List Mapped → Type 0
-Stay Forward g refs kept = AreKeptForward g refs kept
-Stay Backward g refs kept = AreKeptBackward g refs kept × AsksForNoId g
+-- the mappings that a group keeps over refs in a direction
+abbrev pub Keeps : Direction → List Reading → List Ref → List Mapped → Type 0
+Keeps Forward g refs kept = AreKeptForward g refs kept
+Keeps Backward g refs kept = AreKeptBackward g refs kept
+
+-- names decide alone in a direction: from right to left, if no destination is an id
+abbrev pub NamesSuffice : Direction → List Reading → Type 0
+NamesSuffice Forward g = Unit {0}
+NamesSuffice Backward g = AsksForNoId g
 
 -- what is told of a mapping of a group in a direction
 abbrev pub entry_of : Direction → List Reading → Mapped → Entry
 entry_of Forward g = forward_entry g
 entry_of Backward g = backward_entry g
 
--- the texts are fetches, and these entries tell of the mappings that stay of them over the names
+-- the structs and the text describe the mappings that a group keeps over refs in a direction
+pub record Lists (d : Direction) (g : List Reading) (refs : List Ref) (structs : List MappingOut) (text : List ℕ) :
+    Type 0 where
+  pub kept : List Mapped
+  pub keeps : Keeps d g refs kept
+  pub describes : Describes (map (entry_of d g) kept) structs text
+
+-- the texts are fetches, and these entries tell of the mappings that are kept of them over the names
 pub record AreMatched (d : Direction) (texts names : List (List ℕ)) (es : List Entry) : Type 0 where
   pub group : List Reading
   pub read : AllZip (Reads Fetch) texts group
+  pub by_names : NamesSuffice d group
   pub kept : List Mapped
-  pub stay : Stay d group (map nameless names) kept
+  pub keeps : Keeps d group (map nameless names) kept
   pub are : es ≡ map (entry_of d group) kept
 
 -- the texts are fetches, of which some asks back for an id

@@ -49,7 +49,7 @@ pub enum Failure {
     TooSmall,
     /// Memory ran out.
     NoMemory,
-    /// The number isn't that of an operation, a direction or an outcome.
+    /// The number isn't that of an operation, a direction, a kind or an outcome.
     NoOperation,
     /// A destination is an id, which can't be matched by names alone.
     NeedsIds,
@@ -57,6 +57,8 @@ pub enum Failure {
     InConflict,
     /// The remote lacks the source of a refspec.
     MissingSource,
+    /// Digits spell no id.
+    InvalidId,
 }
 
 impl Failure {
@@ -88,6 +90,7 @@ impl Failure {
             Failure::NeedsIds => 21,
             Failure::InConflict => 22,
             Failure::MissingSource => 23,
+            Failure::InvalidId => 24,
         }
     }
 }

@@ -1,14 +1,15 @@
 //! Matching fetch specs against names.
 
-ghost use Rattle.std.specs.Prelude.{◌≡◌, ◌↔◌, ℕ, List, map, replicate, IfErr, IfOk, IsTrue, MatchOption, OnOk};
+ghost use Rattle.std.specs.Prelude.{◌≡◌, ◌↔◌, ℕ, List, map, replicate, IfErr, IfOk, IsTrue, MatchBool, MatchOption, OnOk};
 ghost use Rattle.std.specs.List.{AllByRecursion, AllZip};
 ghost use Rattle.gix_refspec.specs.Specs.Grammar.{Reads};
 ghost use Rattle.gix_refspec.specs.Views.Group.{mapped_of, readings_of, ref_of};
 ghost use Rattle.gix_refspec.specs.Texts.ObjectId.{id_bytes};
+ghost use Rattle.gix_refspec.specs.Laws.Items.{AsksForNoId};
 ghost use Rattle.gix_refspec.specs.Views.Spec.{reading_of};
 ghost use Rattle.gix_refspec_c.specs.Group.{bytes_of};
 ghost use Rattle.gix_refspec_c.specs.Mapping.{Entry, HasAll, LacksAll, Room, Describes, backward_entry, forward_entry};
-ghost use Rattle.gix_refspec_c.specs.Matching.{AreMatched, AreUnmatched, direction_code, nameless};
+ghost use Rattle.gix_refspec_c.specs.Matching.{AreMatched, AreUnmatched, Lists, NamesSuffice, direction_code, nameless};
 ghost use Rattle.gix_refspec_c.specs.Outcome.{Answers};
 
 use crate::explanation::Text;
@@ -66,8 +67,8 @@ pub extern "C" fn gix_refspec_match(
     }
 }
 
-// The direction with this number in C.
-fn direction_of(number: u32) -> Option<Direction>
+/// The direction with this number in C.
+pub(crate) fn direction_of(number: u32) -> Option<Direction>
     ensures { MatchOption result
         ((d : Direction) → ¬ (number ≡ direction_code d)) (λ d. number ≡ direction_code d) }
 {
@@ -91,25 +92,48 @@ fn listing_of(
     ensures err { IfErr result (AreUnmatched direction (map bytes_of texts.now)) }
 {
     let group = read_all(alloc, texts, Operation::Fetch)?;
+    if lacks_ids(direction, &group) {
+        return Err(Failure::NeedsIds);
+    }
     let null = ObjectId::null(Kind::Sha1);
-    let items = match items_of(alloc, names, &null) {
-        Ok(items) => items,
-        Err(_) => return Err(Failure::NoMemory),
-    };
+    match items_of(alloc, names, &null) {
+        Ok(items) => matched(alloc, group, items.as_slice(), direction),
+        Err(_) => Err(Failure::NoMemory),
+    }
+}
+
+// Whether names don't decide: from right to left, if a spec asks for an id.
+fn lacks_ids(direction: Direction, group: &MatchGroup<'_>) -> bool
+    ensures { MatchBool result
+        ((direction ≡ Direction.Backward) × ¬ (AsksForNoId (readings_of group.now)))
+        (NamesSuffice direction (readings_of group.now)) }
+{
     match direction {
-        Direction::Forward => match group.match_lhs(alloc, items.as_slice()) {
+        Direction::Forward => false,
+        Direction::Backward => !group.asks_for_no_id(),
+    }
+}
+
+/// The listing of the mappings of a group that are kept over some items.
+pub(crate) fn matched(
+    alloc: Global,
+    group: MatchGroup<'_>,
+    items: &[Item<'_>],
+    direction: Direction,
+) -> Result<Listing, Failure>
+    ensures ok { IfOk result (λ listing. Lists direction (readings_of group.entry) (map ref_of items.now)
+        listing.mappings.items listing.text.items) }
+    ensures err { IfErr result (λ f. f ≡ Failure.NoMemory) }
+{
+    match direction {
+        Direction::Forward => match group.match_lhs(alloc, items) {
             Ok(outcome) => listed_forward(alloc, &outcome.group, outcome.mappings.as_slice()),
             Err(_) => Err(Failure::NoMemory),
         },
-        Direction::Backward => {
-            if !group.asks_for_no_id() {
-                return Err(Failure::NeedsIds);
-            }
-            match group.match_rhs(alloc, items.as_slice()) {
-                Ok(outcome) => listed_backward(alloc, &outcome.group, outcome.mappings.as_slice()),
-                Err(_) => Err(Failure::NoMemory),
-            }
-        }
+        Direction::Backward => match group.match_rhs(alloc, items) {
+            Ok(outcome) => listed_backward(alloc, &outcome.group, outcome.mappings.as_slice()),
+            Err(_) => Err(Failure::NoMemory),
+        },
     }
 }
 

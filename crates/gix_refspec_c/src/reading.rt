@@ -64,7 +64,8 @@ pub(crate) fn read_all<'a>(
     Ok(group)
 }
 
-fn add<'a>(group: &mut MatchGroup<'a>, spec: RefSpecRef<'a>) -> Result<(), Failure>
+/// Adds a spec at the end of a group.
+pub(crate) fn add<'a>(group: &mut MatchGroup<'a>, spec: RefSpecRef<'a>) -> Result<(), Failure>
     ensures ok { OnOk result (group.new.specs.items ≡ group.old.specs.items ++ spec.entry ∷ []) }
     ensures err { IfErr result (λ f. f ≡ Failure.NoMemory) }
 {

@@ -1,5 +1,10 @@
-//! The calls of `gix_refspec.h`, which says what each does. The crate `refspec` is the safe way to them.
+//! The calls of `gix_refspec.h`, which says what each does. `calls` has some of them as safe functions; the crate
+//! `refspec` is a safe way to all.
 #![no_std]
+
+extern crate alloc;
+
+pub mod calls;
 
 /// The operations.
 pub const FETCH: u32 = 1;
@@ -34,6 +39,7 @@ pub const NO_OPERATION: u32 = 20;
 pub const NEEDS_IDS: u32 = 21;
 pub const IN_CONFLICT: u32 = 22;
 pub const MISSING_SOURCE: u32 = 23;
+pub const INVALID_ID: u32 = 24;
 
 /// The kinds of instructions.
 pub const PUSH_ALL_MATCHING: u32 = 1;
@@ -43,6 +49,11 @@ pub const PUSH_EXCLUDE: u32 = 4;
 pub const FETCH_ONLY: u32 = 5;
 pub const FETCH_EXCLUDE: u32 = 6;
 pub const FETCH_AND_UPDATE: u32 = 7;
+
+/// The modes of refspecs, by their signs.
+pub const NORMAL: u32 = 1;
+pub const FORCED: u32 = 2;
+pub const NEGATIVE: u32 = 3;
 
 /// The sides of a refspec.
 pub const SOURCE: u32 = 1;
@@ -92,6 +103,17 @@ pub struct Parts {
     pub destination: Text,
 }
 
+/// The mode of a refspec and its sides. A missing side is empty; a present one never is.
+#[repr(C)]
+#[derive(Clone, Copy, Debug)]
+pub struct Sides {
+    pub mode: u32,
+    pub has_source: u32,
+    pub has_destination: u32,
+    pub source: Text,
+    pub destination: Text,
+}
+
 /// The wrong bytes of a refused text. If no bytes are wrong, all fields are 0.
 #[repr(C)]
 #[derive(Clone, Copy, Debug, Default)]
@@ -99,6 +121,23 @@ pub struct Span {
     pub side: u32,
     pub start: usize,
     pub len: usize,
+}
+
+/// The text of a refspec, and its operation.
+#[repr(C)]
+#[derive(Clone, Copy, Debug)]
+pub struct Spec {
+    pub text: Text,
+    pub operation: u32,
+}
+
+/// A ref, and the digits of its ids; a text is empty where there is no id, or none is known.
+#[repr(C)]
+#[derive(Clone, Copy, Debug)]
+pub struct Ref {
+    pub name: Text,
+    pub target: Text,
+    pub object: Text,
 }
 
 /// What a refspec makes of a name. The name that it makes is in the buffer.
@@ -154,6 +193,8 @@ extern "C" {
     pub fn gix_refspec_check(text: *const u8, text_len: usize, operation: u32) -> u32;
     pub fn gix_refspec_locate(text: *const u8, text_len: usize, operation: u32, span: *mut Span) -> u32;
     pub fn gix_refspec_parts(text: *const u8, text_len: usize, operation: u32, parts: *mut Parts) -> u32;
+    pub fn gix_refspec_read(text: *const u8, text_len: usize, operation: u32, sides: *mut Sides) -> u32;
+    pub fn gix_refspec_print(parts: *const Parts, buffer: *mut u8, buffer_len: usize, len: *mut usize) -> u32;
     pub fn gix_refspec_canonical(
         text: *const u8, text_len: usize, operation: u32,
         buffer: *mut u8, buffer_len: usize, len: *mut usize,
@@ -181,6 +222,11 @@ extern "C" {
     ) -> u32;
     pub fn gix_refspec_match(
         texts: *const Text, texts_count: usize, names: *const Text, names_count: usize, direction: u32,
+        mappings: *mut Mapping, mappings_count: usize, buffer: *mut u8, buffer_len: usize,
+        count: *mut usize, len: *mut usize,
+    ) -> u32;
+    pub fn gix_refspec_match_refs(
+        specs: *const Spec, specs_count: usize, refs: *const Ref, refs_count: usize, direction: u32,
         mappings: *mut Mapping, mappings_count: usize, buffer: *mut u8, buffer_len: usize,
         count: *mut usize, len: *mut usize,
     ) -> u32;

@@ -1150,7 +1150,7 @@ mod tests {
         }
         assert_eq!(Error::of(99), Error::Other(99));
         assert_eq!(Error::Other(99).outcome(), Some(99));
-        for number in [sys::MISSING_SOURCE + 1, 99, u32::MAX] {
+        for number in [sys::INVALID_ID + 1, 99, u32::MAX] {
             let sentence = format!("The library ended with outcome {number}, which it doesn't explain.");
             assert_eq!(Error::of(number).to_string(), sentence);
         }
