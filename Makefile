@@ -6,18 +6,18 @@
 # make lib     proves and builds the library for C, at out/lib
 # make install-lib PREFIX=FOLDER, uninstall-lib: its header, static and shared library, .pc and cmake files, below FOLDER
 # make test-bindings   tests it from C, Rust and Python
-# make dist    packages of all that, at out/dist: for any Linux, Debian, Python and cargo; make test-dist tries them
+# make dist    packages of all that for x86-64 and arm64, at out/dist: for any Linux, Debian, Python and cargo; make test-dist tries them
 # make clean   removes the programs, what is kept of proofs, and the logs
 
 SHELL := /bin/bash
 .SHELLFLAGS := -eu -o pipefail -c
 .PHONY: help build run test clean kit install uninstall
 
-LIBRARY := crates/gix_refspec_text crates/gix_refspec_match crates/gix_refspec crates/gix_refspec_plan crates/gix_refspec_lint
+LIBRARY := crates/gix_refspec_text crates/gix_refspec_match crates/gix_refspec crates/gix_refspec_plan crates/gix_refspec_lint crates/gix_refspec_why crates/gix_refspec_remote
 FOLDER := crates/refspec_map
 PROGRAM := $(FOLDER)/out/refspec_map
 TESTS := crates/gix_refspec_tests/out/gix_refspec_tests_tests
-PEOPLE_LIBRARY := crates/refspec_json crates/refspec_io crates/refspec_plans crates/refspec_commands crates/refspec_request crates/refspec_git
+PEOPLE_LIBRARY := crates/refspec_json crates/refspec_io crates/refspec_fetch crates/refspec_commands crates/refspec_request crates/refspec_git
 PEOPLE := crates/refspec
 PEOPLE_PROGRAM := $(PEOPLE)/out/refspec
 PEOPLE_SOURCES := crates.txt $(shell find $(LIBRARY) $(PEOPLE_LIBRARY) $(PEOPLE) \( -name out -o -name edits \) -prune -o -type f -print)
@@ -56,9 +56,13 @@ FISH_START := share/fish/vendor_conf.d
 LICENCES := LICENSE-MIT LICENSE-APACHE
 PEOPLE_DOCS := docs/GIT.md docs/refspec.schema.json $(LICENCES)
 
+# What is installed, and where the library is that is; make dist has others.
+PROGRAMS ?= $(PROGRAM) $(PEOPLE_PROGRAM)
+BUILT_LIB ?= $(LIB)
+
 install: build install-lib
 	@install -d $(addprefix $(TO)/,bin share/man/man1 $(BASH_FOLDER) $(ZSH_FOLDER) $(FISH_FOLDER) $(FISH_START) share/doc/refspec)
-	@install -m 755 $(PROGRAM) $(PEOPLE_PROGRAM) bin/git-refspec $(TO)/bin
+	@install -m 755 $(PROGRAMS) bin/git-refspec $(TO)/bin
 	@install -m 644 man/*.1 $(TO)/share/man/man1
 	@for file in completions/*.bash; do \
 	    name=$$(basename $$file .bash) && install -m 644 $$file $(TO)/$(BASH_FOLDER)/$$name || exit; \
@@ -127,8 +131,8 @@ FILLED = sed -e 's|@PREFIX@|$(PC_PREFIX)|' -e 's|@LIBDIR@|$(LIBDIR)|' -e 's|@VER
 install-lib: lib
 	@install -d $(TO)/include $(TO)/$(LIBDIR)/pkgconfig $(CMAKE_FOLDER) $(TO)/share/doc/gix_refspec
 	@install -m 644 $(HEADER) $(TO)/include
-	@install -m 644 $(ARCHIVE) $(TO)/$(LIBDIR)
-	@install -m 755 $(LIB)/$(SHARED) $(TO)/$(LIBDIR)/$(SHARED).$(C_VERSION)
+	@install -m 644 $(BUILT_LIB)/libgix_refspec.a $(TO)/$(LIBDIR)
+	@install -m 755 $(BUILT_LIB)/$(SHARED) $(TO)/$(LIBDIR)/$(SHARED).$(C_VERSION)
 	@ln -sf $(SHARED).$(C_VERSION) $(TO)/$(LIBDIR)/$(SONAME)
 	@ln -sf $(SONAME) $(TO)/$(LIBDIR)/$(SHARED)
 	@$(FILLED) bindings/c/gix_refspec.pc.in >$(TO)/$(LIBDIR)/pkgconfig/gix_refspec.pc
@@ -145,14 +149,46 @@ uninstall-lib:
 test-bindings: kit
 	@tests/bindings.sh
 
-# Packages, each the same bytes at each run: the times in them are SOURCE_DATE_EPOCH, or that of the last commit.
+# Packages, each the same bytes at each run: the times in them are SOURCE_DATE_EPOCH, or that of the last commit. Their programs
+# need no library. Those for arm64, and its library, are made where Debian's compiler for it is.
 .PHONY: dist test-dist
 VERSION := $(shell sed -n '/^## /{s/^## //p;q}' CHANGELOG.md)
 DIST ?= $(LOGS)/dist
 SOURCE_DATE_EPOCH ?= $(shell git log -1 --format=%ct 2>/dev/null || echo 0)
+PROCESSORS ?= x86_64 $(shell echo 'int main(void) { }' | aarch64-linux-gnu-gcc -static -x c -o /dev/null - 2>/dev/null && echo aarch64)
+STATIC_FOLDER := $(LOGS)/x86_64
+STATIC := $(STATIC_FOLDER)/refspec
+ARM := $(LOGS)/aarch64
+ARM_BUILT := $(ARM)/refspec $(ARM)/lib/libgix_refspec.a
+RUNTIME := $(wildcard packaging/runtime/*.c)
 
-dist: build lib
-	@SOURCE_DATE_EPOCH=$(SOURCE_DATE_EPOCH) tools/dist.sh $(DIST) $(VERSION) $(C_VERSION) $(SONAME)
+dist: build lib $(STATIC) $(if $(filter aarch64,$(PROCESSORS)),$(ARM_BUILT))
+	@SOURCE_DATE_EPOCH=$(SOURCE_DATE_EPOCH) tools/dist.sh $(DIST) $(VERSION) $(C_VERSION) $(SONAME) $(PROCESSORS)
+
+# rt ci leaves a program that an earlier run on the machine proved without the object that it was linked from.
+OBJECT := $(FOLDER)/out/$(notdir $(FOLDER)).o
+PEOPLE_OBJECT := $(PEOPLE)/out/$(notdir $(PEOPLE)).o
+
+$(OBJECT): $(SOURCES) | $(PROGRAM)
+$(PEOPLE_OBJECT): $(PEOPLE_SOURCES) | $(PEOPLE_PROGRAM)
+$(OBJECT) $(PEOPLE_OBJECT):
+	@mkdir -p $(STATIC_FOLDER)
+	@tools/build.py $(basename $(@F)) x86_64 >$(STATIC_FOLDER)/$(@F).log 2>&1 || { cat $(STATIC_FOLDER)/$(@F).log >&2; exit 1; }
+
+$(STATIC): $(PROGRAM) $(PEOPLE_PROGRAM) $(OBJECT) $(PEOPLE_OBJECT) tools/static.sh
+	@tools/static.sh $(@D)
+
+$(ARM)/refspec: $(PROGRAM) $(PEOPLE_PROGRAM) tools/build.py tools/static.sh $(RUNTIME)
+	@mkdir -p $(@D)
+	@echo "make: building the programs for arm64, and proving them if make test built those for x86-64; log: $(@D)/build.log" >&2
+	@for crate in $(notdir $(FOLDER) $(PEOPLE)); do tools/build.py $$crate aarch64 || exit; done >$(@D)/build.log 2>&1 \
+	|| { cat $(@D)/build.log >&2; exit 1; }
+	@tools/static.sh $(@D) aarch64
+
+$(ARM)/lib/libgix_refspec.a: $(ARCHIVE) tools/build.py tools/archive.sh $(RUNTIME)
+	@mkdir -p $(@D)
+	@tools/build.py $(notdir $(C_LIBRARY)) aarch64 >$(@D)/../lib.log 2>&1 || { cat $(@D)/../lib.log >&2; exit 1; }
+	@tools/archive.sh $(@D) $(SONAME) aarch64
 
 test-dist: dist
 	@tests/packages.sh $(DIST)

@@ -1,17 +1,21 @@
 #!/bin/bash
 # Installs each package where no toolchain is on the PATH, and does its main task there: tests/packages.sh [DIST]
 #
-# DIST is what `make dist` made; without it that is made here. Says what it leaves out for want of a tool.
+# DIST is what `make dist` made. Without it the packages for x86-64 are made here, and of arm64 the library alone is tried, as its
+# programs would have to be proved again. Says what it leaves out for want of a tool.
 set -eu -o pipefail
 cd "$(dirname "${BASH_SOURCE[0]}")/.."
 sources=$PWD
 made=$(mktemp -d)
 trap 'rm -rf "$made"' EXIT
-[ $# -gt 0 ] || make --no-print-directory dist DIST="$made/dist" >/dev/null
-dist=$(cd "${1:-$made/dist}" && pwd)
 say() { echo "packages: $*"; }
 fail() { say "$*" >&2; exit 1; }
 has() { command -v "$1" >/dev/null; }
+echo 'int main(void) { }' | gcc -static -x c -o "$made/empty" - 2>/dev/null \
+    || { say "left out, as there is no gcc, or no static C library"; exit 0; }
+[ $# -gt 0 ] || export PROCESSORS=x86_64
+[ $# -gt 0 ] || make --no-print-directory dist DIST="$made/dist" >/dev/null
+dist=$(cd "${1:-$made/dist}" && pwd)
 
 # bare COMMAND..: with an empty environment, and nothing on the PATH but the system and the folders of $beside.
 beside=
@@ -46,7 +50,7 @@ check_programs() {
     wants 0 '+refs/heads/*:refs/x/*' refspec canon '+refs/heads/*:refs/x/*'
     wants 0 "refspec $(sed -n '/^## /{s/^## //p;q}' CHANGELOG.md)" refspec --version
     wants 0 'ok main' sh -c 'echo main | refspec_map canon fetch'
-    has git || { say "left out git refspec, as there is no git"; return; }
+    has git || { say "left out git refspec, as there is no git"; return 0; }
     wants 0 '' git -C "$made/clone" refspec check
     wants 0 $'+refs/heads/*:refs/remotes/origin/* (configured)\nrefs/heads/main refs/remotes/origin/main
 refs/heads/wip/x refs/remotes/origin/wip/x' sh -c 'git -C "$0" refspec plan | awk "{ print \$1, \$2 }"' "$made/clone"
@@ -64,11 +68,39 @@ check_planner() {
     wants 1 'A ref name must not have two dots in a row.' sh -c 'exec "$@" a..b <"$0"' "$made/refs" "$@"
 }
 
-# README.md names what is there.
-for one in $(grep -oE '(lib)?(gix[-_])?refspec[-_*][^ `]*\.(tar\.gz|deb|whl)' README.md); do
-    [[ $one == *.deb ]] && ! has dpkg-deb && continue
-    compgen -G "$dist/$one" >/dev/null || fail "README.md names $one, which isn't in $dist"
+# What was made is listed, and README.md and the page of the release name what is there.
+(cd "$dist" && sha256sum --quiet --check SHA256SUMS) || fail "SHA256SUMS has other sums"
+[ "$(cd "$dist" && ls)" = "$(cut -c67- "$dist/SHA256SUMS" | cat - <(echo SHA256SUMS) | LC_ALL=C sort)" ] || fail "SHA256SUMS doesn't list all"
+is_left_out() {
+    case $1 in
+        *aarch64* | *arm64*) ! has_arm64 ;;
+        *.deb) ! has dpkg-deb ;;
+        *.crate) ! has cargo ;;
+        *-source.tar.gz) ! git rev-parse --is-inside-work-tree >/dev/null 2>&1 ;;
+        *) false ;;
+    esac
+}
+has_arm64() { compgen -G "$dist/*-aarch64-linux.tar.gz" >/dev/null; }
+for page in README.md packaging/README; do
+    for one in $(sed -e 's/$(uname -m)/x86_64/g' -e 's/$(dpkg --print-architecture)/amd64/g' $page \
+        | grep -oE '(lib)?(gix[-_])?refspec[-_*0-9][^ `;]*\.(tar\.gz|deb|whl|crate)'); do
+        compgen -G "$dist/$one" >/dev/null || is_left_out "$one" || fail "$page names $one, which isn't in $dist"
+    done
 done
+
+# Each program and each shared library asks for no other, nor for a loader: then it is for any Linux. A shared library needs six
+# functions of the process, without their versions; auditwheel looks at these things too.
+asks_for_none() {
+    local told
+    told=$(LC_ALL=C readelf -lVd "$1")
+    ! grep -qE 'NEEDED|RPATH|RUNPATH|INTERP|GLIBC' <<<"$told" || fail "${1##*/} asks for a library or a loader"
+}
+only_six() {
+    local others
+    others=$(LC_ALL=C readelf -W --dyn-syms "$1" | awk '$7 == "UND" && $8 != "" { print $8 }' \
+        | grep -vxE 'malloc|realloc|free|memcpy|memmove|memset' || true)
+    [ -z "$others" ] || fail "${1##*/} needs $others"
+}
 
 # ---- the archive for any Linux, moved after it was unpacked
 
@@ -78,9 +110,11 @@ mkdir "$made/first"
 tar -xzf "$dist/$name.tar.gz" -C "$made/first"
 unpacked=$made/elsewhere
 mv "$made/first/$name" "$unpacked"
-# The glibc that README.md names is what the programs ask for, and an older processor is told of.
-asked=$(readelf -V "$unpacked"/bin/refspec* | grep -o 'GLIBC_2\.[0-9]*' | sort -uV | tail -n 1)
-grep -qF "glibc ${asked#GLIBC_} or later" README.md || fail "the programs ask for $asked, and README.md says otherwise"
+# Each asks for no library, and an older processor is told of.
+for one in "$unpacked"/bin/refspec{,_map} "$unpacked/lib/libgix_refspec.so"; do
+    asks_for_none "$one"
+done
+only_six "$unpacked/lib/libgix_refspec.so"
 if has qemu-x86_64; then
     for program in refspec refspec_map; do
         status=0
@@ -100,6 +134,9 @@ wants 0 '+refs/heads/*:refs/x/*' refspec canon '+refs/heads/*:refs/x/*'
 [ -z "$(find "$made/home/.local" ! -type d)" ] || fail "a copy isn't removed by the commands of README"
 beside=$unpacked/bin:
 check_programs
+tests/replay.py "$unpacked/bin/refspec_map" >/dev/null
+tests/replay-refspec.py "$unpacked/bin/refspec" >/dev/null
+tests/git-refspec.py --stored "$unpacked/bin/refspec" >/dev/null
 for page in refspec git-refspec refspec_map; do
     [ -s "$unpacked/share/man/man1/$page.1" ] || fail "there is no manual page $page"
     ! has man || bare env MANPATH="$unpacked/share/man" man "$page" >"$made/out" || fail "man $page fails"
@@ -111,7 +148,7 @@ if has fish && has git; then
     grep -q '^check' "$made/out" || fail "fish completes git refspec to $(cat "$made/out")"
 fi
 beside=
-say "the archive: git refspec check and plan in a clone, manual pages, and completion"
+say "the archive: the stored samples of three programs, git refspec in a clone, manual pages, and completion"
 
 # ---- C
 
@@ -162,8 +199,9 @@ fi
 # ---- Rust
 
 # The crates as a user has them who has no registry: unpacked, and patched in.
+crates=$made/crates
 planner_in_rust() {
-    local one crates=$made/crates
+    local one
     mkdir -p "$crates" "$made/rust/src"
     for one in "$dist"/*.crate; do
         tar -xzf "$one" -C "$crates"
@@ -194,6 +232,10 @@ else
     ! cargo_in || fail "cargo builds without the library"
     grep -q GIX_REFSPEC_FOLDER "$made/out" && ! grep -q panicked "$made/out" \
         || fail "cargo doesn't say what names the library: $(cat "$made/out")"
+    sed -i 's/\(refspec = .*\) }/\1, features = ["vendored"] }/' "$made/rust/Cargo.toml"
+    cargo_in || fail "by the feature vendored: $(cat "$made/out")"
+    check_planner "$made/rust/target/debug/planner"
+    sed -i 's/, features = .* }/ }/' "$made/rust/Cargo.toml"
     cargo_in PKG_CONFIG_PATH="$unpacked/lib/pkgconfig" || fail "by pkg-config: $(cat "$made/out")"
     check_planner "$made/rust/target/debug/planner"
     cp -R "$unpacked" "$made/copy"
@@ -204,8 +246,21 @@ else
     (cd "$made" && echo 'int nothing;' >nothing.c && gcc -c nothing.c && rm copy/lib/libgix_refspec.a \
         && ar rc copy/lib/libgix_refspec.a nothing.o)
     ! cargo_in GIX_REFSPEC_FOLDER="$made/copy" || fail "cargo keeps what an earlier archive made"
+    # What `cargo publish` would try, but for the registry: each crate is packaged again, and built of that.
+    mkdir "$made/workspace"
+    cp -R "$crates/sys" "$crates/refspec" bindings/rust/Cargo.toml "$made/workspace"
+    mv "$made/workspace/sys" "$made/workspace/gix-refspec-sys"
+    for crate in gix-refspec-sys refspec; do
+        mv "$made/workspace/$crate/Cargo.toml.orig" "$made/workspace/$crate/Cargo.toml"
+    done
+    if cargo package --help | grep -q -- --registry; then
+        cargo package --quiet --offline --workspace --features vendored --manifest-path "$made/workspace/Cargo.toml" >"$made/out" 2>&1 \
+            || fail "cargo package: $(cat "$made/out")"
+    else
+        say "left out: this cargo builds no packages that need one another"
+    fi
     beside=
-    say "the crates: a planner in Rust by pkg-config and by GIX_REFSPEC_FOLDER, and again where the archive changes"
+    say "the crates: a planner in Rust by its own copy, by pkg-config and by GIX_REFSPEC_FOLDER, and again where the archive changes"
 fi
 
 # ---- Python
@@ -218,11 +273,26 @@ in_python() {
     (cd "$made/home" && bare env PYTHONDONTWRITEBYTECODE=1 "$@" "$folder/bin/python" -m unittest discover -q \
         -s "$sources/bindings/python/tests" >"$made/out" 2>&1) || fail "the tests in Python: $(cat "$made/out")"
 }
+# What auditwheel would look at, which Debian 12 hasn't: a wheel for manylinux and musllinux asks for no library, and is for the processor of its name.
+for wheel in "$dist"/*.whl; do
+    rm -rf "$made/unzipped"
+    python3 -m zipfile -e "$wheel" "$made/unzipped"
+    library=$made/unzipped/gix_refspec/libgix_refspec.so.0.3
+    asks_for_none "$library"
+    only_six "$library"
+    case $wheel in
+        *manylinux_2_17_x86_64.manylinux2014_x86_64.musllinux_1_1_x86_64.whl) processor=X86-64 ;;
+        *manylinux_2_17_aarch64.manylinux2014_aarch64.musllinux_1_1_aarch64.whl) processor=AArch64 ;;
+        *) fail "${wheel##*/} is for other systems" ;;
+    esac
+    LC_ALL=C readelf -h "$library" | grep -q "Machine:.*$processor" || fail "${wheel##*/} has a library of another processor"
+done
+
 python=$(command -v python3)
 if ! "$python" -m venv "$made/wheel" >"$made/out" 2>&1; then
     say "left out Python, as it makes no virtual environment"
 else
-    bare "$made/wheel/bin/pip" install -q --no-index --disable-pip-version-check "$dist"/*.whl >"$made/out" 2>&1 \
+    bare "$made/wheel/bin/pip" install -q --no-index --disable-pip-version-check "$dist"/*_x86_64.whl >"$made/out" 2>&1 \
         || fail "pip install of the wheel: $(cat "$made/out")"
     in_python "$made/wheel"
     if has mypy; then
@@ -258,15 +328,15 @@ fi
 # ---- Debian
 
 shopt -s nullglob
-debs=("$dist"/*.deb)
+debs=("$dist"/*_amd64.deb)
 as_root=()
 [ "$(id -u)" = 0 ] || as_root=(fakeroot)
 if [ ${#debs[@]} = 0 ] || ! has dpkg || ! has "${as_root[@]:-env}"; then
     say "left out Debian's packages, as there is no dpkg, or no fakeroot"
 else
     if has lintian; then
-        lintian --allow-root --fail-on error "${debs[@]}" >"$made/out" 2>&1 || fail "lintian: $(cat "$made/out")"
-        say "Debian's packages: no error by lintian$(grep -c '^W:' "$made/out" | sed 's/^/, and warnings: /')"
+        lintian --allow-root --fail-on error,warning "$dist"/*.deb >"$made/out" 2>&1 || fail "lintian: $(cat "$made/out")"
+        say "Debian's packages: nothing by lintian but what their notes explain"
     else
         say "left out: no lintian"
     fi
@@ -309,3 +379,29 @@ make --no-print-directory uninstall PREFIX="$made/to" >/dev/null
 (umask 077 && TZ=Asia/Tokyo LC_ALL=C.UTF-8 make --no-print-directory dist DIST="$made/again" >/dev/null)
 diff -r "$dist" "$made/again" >"$made/out" || fail "a second make dist makes other bytes: $(cat "$made/out")"
 say "make install has the files of the archive, make uninstall removes them, and a second make dist makes the same bytes"
+
+# ---- any Linux, and arm64
+
+tests/roots.sh "$dist"
+if has_arm64; then
+    mkdir "$made/arm64"
+    tar -xzf "$dist/refspec-$version-aarch64-linux.tar.gz" -C "$made/arm64" --strip-components=1
+    for one in "$made"/arm64/bin/refspec{,_map} "$made/arm64/lib/libgix_refspec.so"; do
+        asks_for_none "$one"
+    done
+    only_six "$made/arm64/lib/libgix_refspec.so"
+    if has dpkg-deb && has qemu-aarch64; then
+        for deb in "$dist"/*_arm64.deb; do
+            dpkg-deb -x "$deb" "$made/debian-arm64"
+        done
+        [ "$(qemu-aarch64 "$made/debian-arm64/usr/bin/refspec" --version)" = "refspec $version" ] || fail "Debian's refspec for arm64 doesn't run"
+        asks_for_none "$made/debian-arm64/usr/lib/aarch64-linux-gnu/libgix_refspec.so.0.3"
+    fi
+    tests/arm64.sh "$made/arm64"
+elif [ -e out/aarch64/lib/libgix_refspec.so ]; then
+    make --no-print-directory install-lib PREFIX="$made/arm64" BUILT_LIB=out/aarch64/lib >/dev/null
+    only_six "$made/arm64/lib/libgix_refspec.so"
+    tests/arm64.sh "$made/arm64"
+else
+    say "left out arm64, as nothing is built for it"
+fi

@@ -16,8 +16,9 @@ library() {
         kill -0 "$1" 2>/dev/null || return
         sleep 5
     done
-    tools/library.sh
+    tools/build.py gix_refspec_c x86_64
     tools/archive.sh "$logs/lib" "$soname"
+    ! command -v aarch64-linux-gnu-gcc >/dev/null || make --no-print-directory "$logs/aarch64/lib/libgix_refspec.a"
 }
 
 : >"$logs/gate.log"

@@ -1,5 +1,6 @@
 """The crates of crates.txt, calls of the checker over the libraries that `make test` left proved, its errors, and files of edits,
 for the tools beside this file."""
+import functools
 import os
 import re
 import subprocess
@@ -39,6 +40,12 @@ def errors(output):
     return [Error(*found) for found in ERROR.findall(output)]
 
 
+@functools.lru_cache(maxsize=None)
+def kit():
+    """The folder of the toolchain."""
+    return os.path.dirname(subprocess.run(["rt", "doc"], stdout=subprocess.PIPE, text=True, check=True).stdout.strip())
+
+
 class Crate:
     """A crate: the libraries that it names, and all below it, lowest first."""
 
@@ -57,21 +64,24 @@ class Crate:
         names = sorted(it for it in os.listdir(f"{self.folder}/{folder}") if it.endswith(".edit"))
         return [f"{self.folder}/{folder}/{it}" for it in names if not starts or it.startswith(tuple(starts))]
 
-    def check(self, copy, kept, words):
-        """What the checker says of a copy of the crate. It keeps what it proved in the folder `kept`."""
-        kit = os.path.dirname(subprocess.run(["rt", "doc"], stdout=subprocess.PIPE, text=True, check=True).stdout.strip())
+    def call(self, verb, copy, kept, words):
+        """A call of the checker, `check` or `build`, on a copy of the crate. It keeps what it proved in the folder `kept`."""
         root = "src/main.rt" if os.path.exists(f"{copy}/src/main.rt") else "src/lib.rt"
-        call = [f"{kit}/bin/rattle", "check", "--crate-name", self.name, root, "--links", f"{self.name}=", "--jobs", "1"]
-        call += ["--antt-project", f"{kit}/rattle/logic/antt-project.json", "--logic-built", f"{kit}/logic_built"]
-        call += ["--incremental", kept, "-L", f"dependency={kit}/rlibs"]
+        call = [f"{kit()}/bin/rattle", verb, "--crate-name", self.name, root, "--links", f"{self.name}=", "--jobs", "1"]
+        call += ["--antt-project", f"{kit()}/rattle/logic/antt-project.json", "--logic-built", f"{kit()}/logic_built"]
+        call += ["--incremental", kept, "-L", f"dependency={kit()}/rlibs"]
         call += ["--crate-type", "staticlib"] if self.is_static else []
         for name in ("std", *self.uses):
-            folder = f"{ROOT}/crates/{name}/out/rlib" if name in self.below else f"{kit}/rlibs"
+            folder = f"{ROOT}/crates/{name}/out/rlib" if name in self.below else f"{kit()}/rlibs"
             call += ["--extern", f"{name}={folder}/{name}.rlib"]
         for name in self.below:
             call += ["-L", f"dependency={ROOT}/crates/{name}/out/rlib"]
         how = {"stdin": subprocess.DEVNULL, "stdout": subprocess.PIPE, "stderr": subprocess.STDOUT}
-        return subprocess.run([*call, *words], cwd=copy, text=True, errors="replace", check=False, **how).stdout
+        return subprocess.run([*call, *words], cwd=copy, text=True, errors="replace", check=False, **how)
+
+    def check(self, copy, kept, words):
+        """What the checker says of a copy of the crate."""
+        return self.call("check", copy, kept, words).stdout
 
 
 def crates():

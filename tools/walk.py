@@ -10,7 +10,7 @@ import sys
 
 ROOT = os.path.join(os.path.dirname(os.path.abspath(__file__)), os.pardir)
 PAGE = "docs/MAINTAINING.md"
-LIBRARY = ("gix_refspec_text", "gix_refspec_match", "gix_refspec", "gix_refspec_plan", "gix_refspec_lint")
+LIBRARY = ("gix_refspec_text", "gix_refspec_match", "gix_refspec", "gix_refspec_plan", "gix_refspec_lint", "gix_refspec_why", "gix_refspec_remote")
 FUNCTIONS, FILES = 32, 10
 STEP = re.compile(r"\d+\. `([^`]+\.rt)` of `(\w+)`: (.*)")
 ASIDE = "Not entered: "

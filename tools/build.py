@@ -1,0 +1,34 @@
+#!/usr/bin/env python3
+"""Builds a program or the library for C, over the libraries that are proved in crates/: tools/build.py CRATE PROCESSOR..
+
+A processor is x86_64 or aarch64. rt builds for x86_64 alone, and would prove those libraries again that rt ci left, as it leaves
+them without the mark by which rt knows them. So the compiler is called here as rt calls it. It proves the crate; what it proved
+for one processor, or for rt check, it takes for the next. Makes out/NAME.o of a program and out/libNAME.a of a library, with
+.aarch64 before the last point for that processor.
+"""
+import os
+import sys
+
+import kit
+
+
+def build(crate, processor):
+    name = f"lib{crate.name}" if crate.is_static else crate.name
+    made = f"out/{name}{'' if processor == 'x86_64' else '.' + processor}.{'a' if crate.is_static else 'o'}"
+    words = ["--target", f"{processor}-unknown-linux-gnu", "--toolchain", f"{kit.kit()}/toolchain", "--backend", "llvm", "-o", made]
+    os.makedirs(f"{crate.folder}/out", exist_ok=True)
+    ran = crate.call("build", crate.folder, f"{crate.folder}/out/incremental", words)
+    print(ran.stdout, end="", flush=True)
+    if ran.returncode:
+        sys.exit(f"tools/build.py: {crate.name} isn't built for {processor}")
+
+
+def main():
+    crate = kit.crates().get(sys.argv[1]) if len(sys.argv) > 2 else None
+    if not crate:
+        sys.exit(__doc__)
+    for processor in sys.argv[2:]:
+        build(crate, processor)
+
+
+main()
