@@ -1,6 +1,9 @@
 #!/bin/bash
 # Builds the original crate behind the commands of refspec_map, as README.md beside this script says:
 #   tools/oracle/build.sh SOURCE FOLDER [--stand-ins]
+# SOURCE is the original's or bindings/rust/gix-refspec, which has the same interface. With the environment variable GIX_REFSPEC_FOLDER,
+# which names a folder with lib/libgix_refspec.a, it builds versus too, beside the original. The tests of the interface and the examples of
+# bindings/rust/gix-refspec come with either, for `cargo test -p gix-refspec` in FOLDER.
 set -euo pipefail
 here=$(cd "$(dirname "$0")" && pwd)
 registry=/usr/share/cargo/registry # of Debian's packages
@@ -35,11 +38,17 @@ package() { # name, edition, dependencies
     printf '[package]\nname = "%s"\nversion = "0.0.1"\nedition = "%s"\n\n[dependencies]\n%s\n' "$@"
 }
 
-rm -rf "$folder"/{gix-refspec,gix-hash,gix-validate,refspec_rust,.cargo}
+rm -rf "$folder"/{gix-refspec,gix-hash,gix-validate,refspec_rust,crate_bench,versus,.cargo}
 mkdir -p "$folder/refspec_rust/src"
 cp -R "$source" "$folder/gix-refspec"
 cp "$here/refspec_rust/main.rs" "$folder/refspec_rust/src/"
 members='"gix-refspec", "refspec_rust"'
+bindings=$here/../../bindings/rust
+mkdir -p "$folder/gix-refspec/tests"
+cp "$bindings/gix-refspec/tests/interface.rs" "$folder/gix-refspec/tests/"
+"$here/examples.py" "$bindings/gix-refspec/src" >"$folder/gix-refspec/tests/examples.rs"
+sys="gix-refspec-sys = { path = \"$bindings/gix-refspec-sys\" }"
+is_ours() { grep -q gix-refspec-sys "$source/Cargo.toml" 2>/dev/null; }
 
 if [ "$mode" = --stand-ins ]; then
     bstr="bstr = { version = \"$(version_here bstr)\", default-features = false, features = [\"std\"] }"
@@ -53,6 +62,7 @@ if [ "$mode" = --stand-ins ]; then
     package gix-hash 2021 "" >"$folder/gix-hash/Cargo.toml"
     package gix-validate 2021 "$bstr" >"$folder/gix-validate/Cargo.toml"
     others="smallvec = \"$(version_here smallvec)\""$'\n'"thiserror = \"$(version_here thiserror)\""
+    ! is_ours || others=$sys
     package gix-refspec 2024 "$bstr"$'\n'"$hash"$'\n'"$validate"$'\n'"$others" >"$folder/gix-refspec/Cargo.toml"
     if [ -d "$registry" ]; then
         mkdir -p "$folder/.cargo"
@@ -63,10 +73,22 @@ else
     [ -e "$source/Cargo.toml" ] || fail "$source has no Cargo.toml: give --stand-ins"
     bstr="bstr = \"$(version_asked bstr)\""
     hash="gix-hash = \"$(version_asked gix-hash)\""
+    validate="gix-validate = \"$(version_asked gix-validate)\""
 fi
 
 package refspec_rust 2021 "gix-refspec = { path = \"../gix-refspec\" }"$'\n'"$hash"$'\n'"$bstr" \
     >"$folder/refspec_rust/Cargo.toml"
+mkdir -p "$folder/crate_bench/src"
+cp "$here/../bench/crate.rs" "$folder/crate_bench/src/main.rs"
+package crate_bench 2021 "gix-refspec = { path = \"../gix-refspec\" }"$'\n'"$hash"$'\n'"$bstr" >"$folder/crate_bench/Cargo.toml"
+members="$members, \"crate_bench\""
+if [ -n "${GIX_REFSPEC_FOLDER:-}" ] && ! is_ours; then
+    mkdir -p "$folder/versus/src"
+    cp "$here"/versus/*.rs "$here/rows" "$folder/versus/src/"
+    package versus 2021 "$(printf '%s\n' 'gix-refspec = { path = "../gix-refspec" }' "$hash" "$validate" "$bstr" "$sys")" \
+        >"$folder/versus/Cargo.toml"
+    members="$members, \"versus\""
+fi
 printf '[workspace]\nresolver = "2"\nmembers = [%s]\n\n[profile.release]\nopt-level = 3\n' "$members" >"$folder/Cargo.toml"
 (cd "$folder" && cargo build --release --quiet) || fail "cargo built nothing in $folder"
 echo "built: $folder/target/release/refspec_rust"

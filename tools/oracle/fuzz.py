@@ -1,17 +1,14 @@
 #!/usr/bin/env python3
 """Gives random bytes and mutations of good inputs to all five commands of a program, until something is wrong:
 
-    tools/oracle/fuzz.py PROGRAM [ORIGINAL] [--inputs N] [--seed S] [--jobs J] [--keep FOLDER]
+    tools/oracle/fuzz.py PROGRAM [--inputs N] [--seed S] [--jobs J] [--keep FOLDER]
 
 Six inputs in ten are texts. Each is given to both canon commands, with others in one process. The rest are groups
-of specs and refs. Each is given to `lhs`, `rhs` and `plan`, in a process of its own. ORIGINAL is the original
-crate behind the same words. Its answers are compared. It has to know the word `x-batch`, for many runs in one
-process.
+of specs and refs. Each is given to `lhs`, `rhs` and `plan`, in a process of its own.
 
 It stops at a signal; at a status other than 0, 1 and 3, or one that doesn't fit the input; at a run of more than a
-second of processor time; at an answer without the form that man/refspec_map.1 states; where a canonical text isn't printed
-again as it is, or a plan isn't made of what `lhs` maps; and at a difference that isn't known. It then keeps the
-input. It ends with counts. One seed and number of inputs always give the same inputs.
+second of processor time; at an answer without the form that man/refspec_map.1 states; and where a canonical text isn't
+printed again as it is, or a plan isn't made of what `lhs` maps. It then keeps the input. It ends with counts. One seed and number of inputs always give the same inputs.
 """
 import argparse
 import collections
@@ -21,15 +18,14 @@ import os
 import random
 import re
 import resource
-import select
-import signal
 import sys
 
 sys.dont_write_bytecode = True
-import groups  # beside this script, as the next three
+import groups  # beside this script, as the next four
 import known
 import original
 import specs
+from processes import Failed, Program
 
 LIMIT = original.LIMIT
 # Of processor time, and on the clock, where other programs may delay a run.
@@ -40,9 +36,6 @@ ROOM = 1 << 30
 # A match call looks at each ref for each pattern. So a group whose pairs of a spec and a ref have more bytes may
 # take a second by its size alone, and isn't given.
 PAIRED = 16_000_000
-# It takes time to tell known differences. A group is compared if its specs, times its refs, times its refs again,
-# are no more than this.
-COMPARED = 20_000_000
 # Inputs that are made from one chooser, and how many of these are texts.
 SHARE, TEXTS = 500, 300
 CANON = ("canon fetch", "canon push")
@@ -50,11 +43,9 @@ MATCHING = ("lhs", "rhs", "plan")
 REASONS = b"""Empty NegativeWithDestination NegativeEmpty NegativeObjectHash NegativePartialName
     NegativeGlobPattern InvalidFetchDestination PushToEmpty PatternUnsupported PatternUnbalanced
     ReferenceName""".split()
-# What is counted beside known differences.
+# What is counted.
 COUNTED = ("inputs", "lines", "runs of status 0", "runs of status 1", "runs of status 3", "refused", "mappings",
-           "fixes", "conflicts", "compared")
-PLUS = "it prints a lone source that begins with + as it is"
-LATER_TOO = "both map every candidate of a partial source"
+           "fixes", "conflicts")
 ID = rb"(?:[0-9a-fA-F]{40}|[0-9a-fA-F]{64})"
 FORM = re.compile(rb"(?s:spec (?P<spec>.*)|(?:ref|tag %s) %s (?P<name>.*))" % (ID, ID))
 LOWER_ID = re.compile(rb"[0-9a-f]{40}|[0-9a-f]{64}")
@@ -70,12 +61,6 @@ ODD = [b"\x00", b"\r", b"\r\n", b"\t", b"\n", b"\xff", b"\xc3", b"\xed\xa0\x80",
 HEX = b"0123456789abcdefABCDEF"
 # How many blanks part the fields of a line.
 BLANKS = {b"spec": 1, b"ref ": 2, b"tag ": 3}
-
-Answer = collections.namedtuple("Answer", "output status seconds")
-
-
-class Failed(Exception):
-    """The number of an input, the words of a command, what it was given, and what is wrong."""
 
 
 def lines_of(text):
@@ -347,87 +332,6 @@ class Inputs:
             yield number, b"\n".join(file) + b"\n"
 
 
-# Runs
-
-class Program:
-    """A program that is run on inputs in memory."""
-
-    def __init__(self, path):
-        self.path = os.path.abspath(path)
-        self.files = [os.memfd_create(name) for name in ("given", "output", "errors")]
-
-    def run(self, words, text, number):
-        """The answer to a text, which stands for the input of this number."""
-        for file in self.files:
-            os.ftruncate(file, 0)
-        if os.pwrite(self.files[0], text, 0) != len(text):
-            raise OSError("no room for an input")
-        for file in self.files:
-            os.lseek(file, 0, os.SEEK_SET)
-        duplicates = [(os.POSIX_SPAWN_DUP2, file, place) for place, file in enumerate(self.files)]
-        process = os.posix_spawn(self.path, [self.path, *words.split()], {}, file_actions=duplicates,
-                                 setsigdef=[signal.SIGPIPE, signal.SIGXFSZ])
-        has_ended = self.wait(process)
-        if not has_ended:
-            os.kill(process, signal.SIGKILL)
-        _, status, used = os.wait4(process, 0)
-        output, errors = (os.pread(file, os.fstat(file).st_size, 0) for file in self.files[1:])
-        if not has_ended:
-            raise Failed(number, words, text, f"no end within {SECONDS_ON_THE_CLOCK} seconds")
-        if errors:
-            raise Failed(number, words, text, f"it writes {errors[:60]!r} to the standard error")
-        return Answer(output, os.waitstatus_to_exitcode(status), used.ru_utime + used.ru_stime)
-
-    def wait(self, process):
-        """Whether a process ends in time. The seconds are counted one by one, since all may be paused together."""
-        handle = os.pidfd_open(process)
-        poll = select.poll()
-        poll.register(handle, select.POLLIN)
-        has_ended = any(poll.poll(1000) for _ in range(SECONDS_ON_THE_CLOCK))
-        os.close(handle)
-        return has_ended
-
-
-class Original(Program):
-    """The original, which is asked many things at a time, and keeps in mind what it answered."""
-
-    def __init__(self, path):
-        super().__init__(path)
-        self.answers, self.noted = {}, {}
-
-    def batch(self, asked, number):
-        """Output and status of each run, given as words and a text."""
-        given = b"".join(b"%s %d\n%s" % (words.replace(" ", "-").encode(), len(text), text)
-                         for words, text in asked)
-        rest, status, _ = self.run("x-batch", given, number)
-        if status != 0:
-            raise Failed(number, "x-batch", given, f"the original ends with status {status}")
-        answers = []
-        while rest:
-            head, rest = rest.split(b"\n", 1)
-            status, size = map(int, head.split())
-            answers.append((rest[:size], status))
-            rest = rest[size:]
-        return answers
-
-    def noting(self, command, text):
-        """An answer for known.kinds_of. One that is not at hand is noted, and stands for nothing."""
-        if (command, text) not in self.answers:
-            self.noted[command, text] = None
-            return b"", 0
-        return self.answers[command, text]
-
-    def told(self, tell, number):
-        """What a function tells that calls `noting`, once all is at hand that it notes."""
-        self.answers.clear()
-        while True:
-            told = tell()
-            if not self.noted:
-                return told
-            self.answers.update(zip(self.noted, self.batch(self.noted, number)))
-            self.noted.clear()
-
-
 # Groups and their answers
 
 class Group:
@@ -486,19 +390,6 @@ class Group:
         is_in_order = all(one < two for one, two in zip(order, order[1:]))
         return found if is_in_order and len(ends) == len(found) else None
 
-    def is_compared(self):
-        return len(self.text) <= LIMIT and len(self.specs) * len(self.names) ** 2 <= COMPARED
-
-
-def gains_plus(line, their, our):
-    """Whether a lone source that begins with a plus sign is printed with one more than the original prints."""
-    return line.startswith(b"++") and their.startswith(b"ok +") and our == b"ok +" + their[3:]
-
-
-def spare_byte(text):
-    """A byte that no rule speaks of and no line has, to stand for tabs in names."""
-    return next((bytes([code]) for code in (*range(1, 9), *range(128, 256)) if code not in text), b"")
-
 
 class Fuzz:
     """Makes shares of the inputs, runs them, and counts."""
@@ -507,8 +398,7 @@ class Fuzz:
         resource.setrlimit(resource.RLIMIT_FSIZE, (ROOM, ROOM))
         self.options = options
         self.inputs = Inputs()
-        self.program = Program(options.program)
-        self.original = Original(options.original) if options.original else None
+        self.program = Program(options.program, SECONDS_ON_THE_CLOCK)
         self.counts, self.slowest = collections.Counter(), {}
 
     def share(self, number):
@@ -532,6 +422,8 @@ class Fuzz:
         """The answer, in time, with a status that there is and that fits the length of the text."""
         made = self.program.run(words, text, number)
         self.slowest[words] = max(self.slowest.get(words, (0, 0)), (made.seconds, number))
+        if made.messages:
+            raise Failed(number, words, text, f"it writes {made.messages[:60]!r} to the standard error")
         if made.status < 0:
             raise Failed(number, words, text, f"signal {-made.status}")
         if made.status not in (0, 1, 3):
@@ -570,7 +462,6 @@ class Fuzz:
 
     def give_texts(self, files, count, first):
         """Files of lines, which have so many texts; the number of a file counts from the first one."""
-        asked = []
         for words in CANON:
             self.count(words, "inputs", count)
             for place, text in files:
@@ -582,29 +473,10 @@ class Fuzz:
                 self.count(words, "lines", len(answers))
                 self.count(words, "refused", refused)
                 self.give_again(words, answers, first + place)
-                asked.append((words, text, answers, first + place))
-        if self.original and asked:
-            made = self.original.batch([one[:2] for one in asked], first)
-            for one, (output, status) in zip(asked, made):
-                self.compare_texts(*one, output, status)
-
-    def compare_texts(self, words, text, answers, number, output, status):
-        *theirs, _ = output.split(b"\n")
-        if len(theirs) != len(answers):
-            raise Failed(number, words, text, f"the original answers {output[:60]!r}, with status {status}")
-        self.count(words, "compared", len(answers))
-        for line, their, our in zip(lines_of(text), theirs, answers):
-            if their == our:
-                continue
-            if words != "canon fetch" or not gains_plus(line, their, our):
-                raise Failed(number, words, text, f"{line[:200]!r}: the original answers {their[:60]!r}, this one"
-                             f" {our[:60]!r}")
-            self.count(words, PLUS)
 
     def give_groups(self, given):
         """Groups, each to the three matching commands."""
         canonical = self.canonical([group for group in given if len(group.text) <= LIMIT])
-        compared = []
         for group in given:
             answers = {command: self.run(command, group.text, group.number) for command in MATCHING}
             for command, made in answers.items():
@@ -616,12 +488,8 @@ class Fuzz:
             for command in MATCHING if fault else ():
                 self.count(command, "refused")
                 self.expect(group, command, answers[command], (fault, 1))
-            texts = [] if fault else [canonical[spec][3:] for spec in group.specs]
-            found = None if fault else self.matched(group, answers, texts)
-            if self.original and group.is_compared():
-                compared.append((group, texts, fault, found))
-        if compared:
-            self.compare_groups(compared)
+            if not fault:
+                self.matched(group, answers, [canonical[spec][3:] for spec in group.specs])
 
     def canonical(self, given):
         """The answers of `canon fetch` to the specs of groups."""
@@ -650,62 +518,6 @@ class Fuzz:
         lines = lines_of(answers["plan"].output)
         for word, what in ((b"map\t", "mappings"), (b"fix\t", "fixes"), (b"conflict\t", "conflicts")):
             self.count("plan", what, sum(line.startswith(word) for line in lines))
-        return found
-
-    def compare_groups(self, compared):
-        """The answers of the original. Where a name holds a tab, it and the program are compared as if another
-        byte stood there, since a tab parts the fields of an answer."""
-        asked = []
-        for group, texts, fault, found in compared:
-            spare = b"\t" if fault else spare_byte(group.text)
-            if not spare:
-                continue
-            text = group.text.replace(b"\t", spare)
-            text += b"\n" * (text != b"" and not text.endswith(b"\n"))
-            ours = self.answers_by(texts, fault, found, spare)
-            asked += [(group, texts, command, text, ours[command]) for command in MATCHING]
-        number = compared[0][0].number
-        theirs = self.original.batch([(one[2], one[3]) for one in asked], number)
-        both = list(zip(asked, theirs))
-        kinds = self.original.told(lambda: [self.kinds_of(*one[2:], their) for one, their in both], number)
-        forward = None
-        for (one, their), found in zip(both, kinds):
-            if one[2] == "lhs":
-                forward = (their, found)
-            self.judge(*one, their, found, forward)
-
-    def answers_by(self, texts, fault, found, spare):
-        """The answers of this program, with another byte for a tab in a name."""
-        if fault:
-            return {command: (fault, 1) for command in MATCHING}
-        fields = {command: [[field.replace(b"\t", spare) for field in one] for one in lines]
-                  for command, lines in found.items()}
-        answers = {command: (b"".join(b"\t".join([b"map", *one]) + b"\n" for one in lines), 0)
-                   for command, lines in fields.items()}
-        return {**answers, "plan": known.plan_of(fields["lhs"], texts)}
-
-    def kinds_of(self, command, text, ours, theirs):
-        """In what the answers to a group differ; none if that isn't known. A plan is judged by its mappings."""
-        if command == "plan":
-            return []
-        if theirs == ours:
-            return [LATER_TOO] if known.maps_later(self.original.noting, command, text, ours) else []
-        return known.kinds_of(self.original.noting, command, text, theirs, ours) or None
-
-    def judge(self, group, texts, command, text, ours, theirs, kinds, forward):
-        """Fails at an unknown difference, or counts the known kinds. A plan has those of `lhs`, and has to be made
-        of what that maps."""
-        self.count(command, "compared")
-        if command == "plan" and theirs != ours:
-            mapped, kinds = forward
-            made = mapped if mapped == known.PANIC else known.plan_of(known.mappings(mapped[0]), texts)
-            kinds = kinds if theirs == made else None
-        if kinds is None or not set(kinds) <= set(known.KINDS) or theirs != ours and not kinds:
-            raise Failed(group.number, command, group.text, f"{kinds or 'a difference'}: the original answers"
-                         f" {theirs[0][:300]!r} with status {theirs[1]}, this one {ours[0][:300]!r} with"
-                         f" status {ours[1]}")
-        for kind in kinds:
-            self.count(command, kind)
 
 
 # All of it
@@ -731,23 +543,19 @@ def report(counts, slowest):
     """Prints the counts of each command."""
     for words in slowest:
         shown = [f"{counts[words, what]} {what}" for what in COUNTED if counts[words, what]]
-        kinds = [f"{count} times {what}" for (of, what), count in sorted(counts.items())
-                 if of == words and what not in COUNTED]
         seconds, number = slowest[words]
-        print(f"fuzz: {words}: {', '.join(shown)}; known differences: {', '.join(kinds) or 'none'};"
-              f" the slowest run took {seconds * 1000:.0f} ms, for input {number}")
+        print(f"fuzz: {words}: {', '.join(shown)}; the slowest run took {seconds * 1000:.0f} ms, for input {number}")
 
 
 def main():
     parser = argparse.ArgumentParser(description=__doc__, formatter_class=argparse.RawDescriptionHelpFormatter)
     parser.add_argument("program", metavar="PROGRAM")
-    parser.add_argument("original", metavar="ORIGINAL", nargs="?", help="the original crate behind the same words")
     parser.add_argument("--inputs", type=int, default=20_000, metavar="N")
     parser.add_argument("--seed", type=int, default=1, metavar="S")
     parser.add_argument("--jobs", type=int, default=2, metavar="J", help="how many programs run at a time")
     parser.add_argument("--keep", default=".", metavar="FOLDER", help="where an input goes at which it stops")
     options = parser.parse_args()
-    original.need("fuzz", *filter(None, (options.program, options.original)))
+    original.need("fuzz", options.program)
 
     print(f"fuzz: {options.inputs} inputs of seed {options.seed}", flush=True)
     counts, slowest, failure, done = collections.Counter(), {}, None, 0

@@ -71,7 +71,8 @@ def failure_of(message):
         found = pattern.search(message)
         if found:
             return (word, *found.groups())
-    return "other", message
+    # Two processes say it, in any order.
+    return "other", b"\n".join(sorted(message.splitlines()))
 
 
 class Store:

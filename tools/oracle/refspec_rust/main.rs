@@ -1,8 +1,5 @@
 //! The original crate `gix-refspec` behind the words of `refspec_map`: `canon fetch`, `canon push`, `lhs`, `rhs` and `plan`.
 //!
-//! A word of its own, `x-batch`, is for many runs in one process. The input has records of a line `WORDS LENGTH`, the words
-//! joined by `-`, and so many bytes. Each is answered by a line `STATUS LENGTH` and so many bytes.
-//!
 //! Where the crate panics, it prints the one line `panic`, and the status is 101.
 use std::io::{Read, Write};
 
@@ -217,23 +214,6 @@ fn canon(input: &[u8], op: Operation) -> Answer {
     })
 }
 
-fn batch(input: &[u8]) -> Answer {
-    let (mut rest, mut out) = (input, Vec::new());
-    while let Some(n) = rest.find_byte(b'\n') {
-        let head = rest[..n].to_str().expect("head");
-        let (words, len) = head.split_once(' ').expect("words and length");
-        let len: usize = len.parse().expect("length");
-        let words: Vec<&str> = words.split('-').collect();
-        let body = &rest[n + 1..n + 1 + len];
-        rest = &rest[n + 1 + len..];
-        let run = command(&words).expect("known command");
-        let (text, status) = guarded(&*run, body);
-        writeln!(out, "{status} {}", text.len()).expect("memory");
-        out.extend_from_slice(&text);
-    }
-    (out, 0)
-}
-
 type Command = Box<dyn Fn(&[u8]) -> Answer>;
 
 fn command(words: &[&str]) -> Option<Command> {
@@ -250,7 +230,6 @@ fn command(words: &[&str]) -> Option<Command> {
         ["lhs"] => Box::new(|i| lhs(i, Operation::Fetch)),
         ["rhs"] => Box::new(|i| rhs(i, Operation::Fetch)),
         ["plan"] => Box::new(|i| plan(i, Operation::Fetch)),
-        ["x-batch"] => Box::new(batch),
         _ => return None,
     })
 }
@@ -267,13 +246,12 @@ fn main() {
         println!("{USAGE}");
         std::process::exit(2);
     };
-    let limit = if words == ["x-batch"] { u64::MAX - 1 } else { LIMIT };
     let mut input = Vec::new();
     // Reading may stop as soon as one byte too many has come.
-    let read = std::io::stdin().lock().take(limit + 1).read_to_end(&mut input);
+    let read = std::io::stdin().lock().take(LIMIT + 1).read_to_end(&mut input);
     let (out, status) = if read.is_err() {
         (b"read failed\n".to_vec(), 3)
-    } else if input.len() as u64 > limit {
+    } else if input.len() as u64 > LIMIT {
         (b"input too long\n".to_vec(), 3)
     } else {
         std::panic::set_hook(Box::new(|_| {})); // no message of a panic
