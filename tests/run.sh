@@ -1,7 +1,7 @@
 #!/bin/bash
 # Runs the scripts of this folder over the built program refspec_map, over the built tests of gix_refspec_tests, over the
 # built program refspec, and those of the bindings and packages: tests/run.sh PROGRAM TESTS REFSPEC
-# Three lists of them run side by side, each with its output in one piece. A script that fails doesn't end the run: all that
+# Four lists of them run side by side, each with its output in one piece. A script that fails doesn't end the run: all that
 # failed are listed at the end.
 set -u
 here=$(dirname "${BASH_SOURCE[0]}")
@@ -28,19 +28,29 @@ of_program() {
 }
 
 of_refspec() {
-    for script in refspec replay-refspec git-refspec git-plans lint completions; do
+    for script in refspec replay-refspec git-refspec git-plans lint completions faults interrupted ../tools/fuzz/calls; do
         try "$script.py" "$refspec"
     done
     try schema.py
+    try git-remotes.py
+    try git-fates.py
 }
 
 of_library() {
     try bindings.sh
-    try packages.sh
+    try corpus.sh
+    try versus.sh
+    try drop-in.sh
+    try conformance.sh "$program" "$refspec"
     try readme.py "$program" "$refspec"
 }
 
-for list in of_program of_refspec of_library; do
+of_packages() {
+    try runtime.sh
+    try packages.sh
+}
+
+for list in of_program of_refspec of_library of_packages; do
     "$list" >"$room/$list" 2>&1 </dev/null &
 done
 wait
