@@ -93,6 +93,7 @@ AddsGiven ends.Settings op name input old new = new ≡ old
 abbrev pub spec_input : Command → (configured input : List ℕ) → List ℕ
 spec_input command.Plan configured input = configured
 spec_input command.Stale configured input = []
+spec_input command.Why configured input = []
 spec_input _ configured input = input
 
 -- the name of that

@@ -86,14 +86,15 @@ fn advice_for_pattern(text: &Text<'_>) -> &'static str {
             "To delete refs, name each in a spec of its own, as in `:main`."
         }
         [b"", _] => "Write a source with a `*` too, as in `refs/heads/*:refs/remotes/origin/*`.",
-        [source, b""] => advice_for_source(source, text.bytes.starts_with(b"+")),
+        [source, b""] => advice_for_source(source, text.bytes),
         _ => "Write a `*` into the other side too, or name one ref on both.",
     }
 }
 
-// What to do about a pattern without a destination: an example of the usual one, forced if the spec is.
-fn advice_for_source(source: &[u8], is_forced: bool) -> &'static str {
-    match (source.starts_with(b"refs/tags/"), is_forced) {
+// What to do about a pattern without a destination, in the text of a spec: an example of the usual one, forced if the
+// spec is.
+fn advice_for_source(source: &[u8], text: &[u8]) -> &'static str {
+    match (source.starts_with(b"refs/tags/"), text.starts_with(b"+")) {
         (false, false) => {
             "Add a destination with a `*`, as in `refs/heads/*:refs/remotes/origin/*`, or name one ref."
         }

@@ -20,6 +20,14 @@ pub enum Command {
     Track,
     /// Lists the ref prefixes to request from a server.
     Prefixes,
+    /// Shows the tracking refs that Git takes for the upstreams of branches, given the refs that these merge.
+    Upstream,
+    /// Prints what `git fetch --prefetch` applies in place of each spec.
+    Prefetch,
+    /// Prints what `git remote rename` makes of each text.
+    Rename,
+    /// Shows what each spec does with one ref of a remote.
+    Why,
 }
 
 /// How results are written.
@@ -31,6 +39,15 @@ pub enum Form {
     Zeros,
     /// One JSON object a line, refusals too.
     Json,
+}
+
+/// How many of a kind of messages are reported, as conflicts, left out mappings or notes. In JSON all are.
+#[derive(Clone, Copy, Debug, PartialEq, Eq)]
+pub enum Limit {
+    /// All.
+    All,
+    /// The first 20.
+    Twenty,
 }
 
 /// What ends a record of the input.
@@ -58,8 +75,8 @@ pub struct Call<'a> {
     pub patterns: bool,
     /// Each mapping of a plan is shown in one line with its spec, rather than below it.
     pub long: bool,
-    /// All conflicts and all left out mappings are reported, rather than only the first 20 of each.
-    pub all: bool,
+    /// How many conflicts and how many left out mappings are reported.
+    pub limit: Limit,
     /// `check` warns about valid specs too.
     pub warns: bool,
     /// The exit status of `check` is 1 if it warns about something.
@@ -68,15 +85,19 @@ pub struct Call<'a> {
     pub is_watched: bool,
     /// The specs among the arguments.
     pub specs: Vec<&'a str>,
-    /// The tracking refs among the arguments.
+    /// The tracking refs among the arguments; for `why` the refs of the remote that it is asked about.
     pub refs: Vec<&'a str>,
-    /// The refs that the current branch merges.
+    /// The refs that the current branch merges; for `upstream` those whose upstreams it shows.
     pub merges: Vec<BStr<'a>>,
+    /// The name of the remote that `rename` renames.
+    pub remote: &'a str,
+    /// Its new name.
+    pub new_remote: &'a str,
     /// A plan fetches all tags too.
     pub tags: bool,
     /// A plan reports the local refs that a pruning fetch deletes too.
     pub prune: bool,
-    /// Whether the input is read: a plan and `stale` read the refs of the remote there, and other calls their
+    /// Whether the input is read: a plan, `stale` and `why` read the refs of the remote there, and other calls their
     /// specs, unless those are all among the arguments.
     pub reads_input: bool,
     /// The name of the input in messages.
@@ -98,6 +119,13 @@ pub struct Files<'a> {
     pub configured: &'a [u8],
     /// Local refs.
     pub local: &'a [u8],
+}
+
+/// A call, and the files that it reads beside its input.
+#[derive(Clone, Copy, Debug)]
+pub struct Job<'a> {
+    pub call: &'a Call<'a>,
+    pub files: &'a Files<'a>,
 }
 
 /// A call, and what it reads.

@@ -1,8 +1,7 @@
 //! Results and refusals as JSON, one object a line.
 
-ghost use Rattle.std.specs.Prelude.{◌≡◌, ◌++◌, option_map, string_bytes, IfOk, OnOk};
+ghost use Rattle.std.specs.Prelude.{◌≡◌, option_map, string_bytes, IfOk, OnOk};
 ghost use Rattle.std.specs.Str.{IsUtf8};
-ghost use Rattle.refspec_json.specs.Objects.{line_of, mapping_object};
 ghost use Rattle.refspec_io.specs.Json.{begins_quoted, json_text, operation_name, ShowsWrong, WritesRefused};
 ghost use Rattle.refspec_io.specs.Messages.{IsLocation};
 ghost use Rattle.refspec_io.specs.Shown.{in_quotes};
@@ -76,27 +75,6 @@ pub fn shown_location(alloc: Global, location: &Location<'_>) -> Result<String, 
     let mut shown = Vec::new(alloc);
     location.write(&mut shown, Form::Json)?;
     string_of(alloc, shown.as_slice())
-}
-
-/// Appends the object of a mapping, as a line.
-pub fn write_mapping<'a>(
-    alloc: Global,
-    source: &'a str,
-    destination: Option<&'a str>,
-    spec: &'a str,
-    origin: Option<&'a str>,
-    out: &mut Vec<u8>,
-) -> Result<(), AllocError>
-    ensures { OnOk result (out.new.items ≡ out.old.items ++ line_of (mapping_object
-        source.now (option_map (λ t. t.now) destination.entry) spec.now (option_map (λ t. t.now) origin.entry))) }
-{
-    let object = refspec_json::Mapping {
-        source,
-        destination,
-        spec,
-        origin,
-    };
-    object.write_line(alloc, out)
 }
 
 /// The name of an operation, for the member `operation`.

@@ -66,7 +66,11 @@ impl<'a> RefList<'a> {
             (map bad_bytes self.old.bad.items) (map bad_bytes self.new.bad.items)) }
     {
         match name_of_line(bytes) {
-            None => self.add_bad(number, bytes, false),
+            None => self.add_bad(BadRecord {
+                number,
+                bytes,
+                is_peeled: false,
+            }),
             Some(name) => self.add_named(number, bytes, name),
         }
     }
@@ -99,7 +103,11 @@ impl<'a> RefList<'a> {
         if self.is_last(tag) {
             return Ok(());
         }
-        self.add_bad(number, bytes, true)
+        self.add_bad(BadRecord {
+            number,
+            bytes,
+            is_peeled: true,
+        })
     }
 
     // Whether the last ref so far has the name.
@@ -125,16 +133,12 @@ impl<'a> RefList<'a> {
         Ok(())
     }
 
-    fn add_bad(&mut self, number: usize, bytes: &'a [u8], is_peeled: bool) -> Result<(), AllocError>
+    fn add_bad(&mut self, bad: BadRecord<'a>) -> Result<(), AllocError>
         ensures items { OnOk result (self.new.items.items ≡ self.old.items.items) }
         ensures bad { OnOk result (map bad_bytes self.new.bad.items
-            ≡ map bad_bytes self.old.bad.items ++ bytes.now ∷ []) }
+            ≡ map bad_bytes self.old.bad.items ++ bad_bytes bad.entry ∷ []) }
     {
-        self.bad.push(BadRecord {
-            number,
-            bytes,
-            is_peeled,
-        })?;
+        self.bad.push(bad)?;
         Ok(())
     }
 }

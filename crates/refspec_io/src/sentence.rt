@@ -15,10 +15,16 @@ pub fn write_sentence(
     spec: &RefSpecRef<'_>,
     form: Form,
 ) -> Result<(), AllocError> {
-    let mut sentence = Sentence { alloc, out, form };
+    let mut sentence = Sentence {
+        alloc,
+        out,
+        form,
+        is_forced: spec.allow_non_fast_forward(),
+        is_one_sided: spec.destination().is_none(),
+    };
     match spec.instruction() {
         Instruction::Fetch(fetch) => sentence.fetch(fetch),
-        Instruction::Push(push) => sentence.push(push, spec.destination().is_none()),
+        Instruction::Push(push) => sentence.push(push),
     }
 }
 
@@ -46,26 +52,34 @@ impl Update {
         }
     }
 
-    // The end of a sentence on such an update.
-    fn end(self, allow_non_fast_forward: bool) -> &'static str {
-        match (self, allow_non_fast_forward) {
-            (Update::Branch, false) => ", if that is a fast-forward.",
-            (Update::Branch | Update::Either, true) => ", even if that isn't a fast-forward.",
-            (Update::Tag, false) => ", only if it isn't there yet.",
-            (Update::Tag, true) => ", and replaces one that is there.",
-            (Update::Either, false) => {
-                ", if that is a fast-forward, and a tag only if it isn't there yet."
-            }
+    // The end of a sentence on such an update that isn't forced.
+    fn unforced_end(self) -> &'static str {
+        match self {
+            Update::Branch => ", if that is a fast-forward.",
+            Update::Tag => ", only if it isn't there yet.",
+            Update::Either => ", if that is a fast-forward, and a tag only if it isn't there yet.",
+        }
+    }
+
+    // The end of a sentence on such an update that is forced.
+    fn forced_end(self) -> &'static str {
+        match self {
+            Update::Branch | Update::Either => ", even if that isn't a fast-forward.",
+            Update::Tag => ", and replaces one that is there.",
         }
     }
 }
 
-// Appends the parts of one sentence to `out`.
+// Appends the parts of the sentence on one spec to `out`.
 #[derive(Drop)]
 struct Sentence<'a> {
     alloc: Global,
     out: &'a mut Vec<u8>,
     form: Form,
+    // The spec is forced.
+    is_forced: bool,
+    // The spec has no destination.
+    is_one_sided: bool,
 }
 
 impl Sentence<'_> {
@@ -78,18 +92,14 @@ impl Sentence<'_> {
                 self.write(" into FETCH_HEAD, and by itself updates no ref.")
             }
             Fetch::Exclude { src } => self.exclusion(src.as_bytes(), "fetch"),
-            Fetch::AndUpdate {
-                src,
-                dst,
-                allow_non_fast_forward,
-            } => self.update(src.as_bytes(), dst.as_bytes(), allow_non_fast_forward),
+            Fetch::AndUpdate { src, dst, .. } => self.update(src.as_bytes(), dst.as_bytes()),
         }
     }
 
     // Appends the sentence on a fetch that updates refs.
-    fn update(&mut self, src: &[u8], dst: &[u8], forced: bool) -> Result<(), AllocError> {
+    fn update(&mut self, src: &[u8], dst: &[u8]) -> Result<(), AllocError> {
         if !is_pattern(dst) {
-            return self.update_one(src, dst, forced);
+            return self.update_one(src, dst);
         }
         if !may_be_ref(src) {
             return self.nothing("Fetches", src);
@@ -104,7 +114,7 @@ impl Sentence<'_> {
         self.write(" and writes each to ")?;
         self.name(dst)?;
         self.only_below_refs(dst)?;
-        self.write(Update::of(dst).end(forced))
+        self.end(Update::of(dst))
     }
 
     // Appends the restriction to names below `refs/`, if the pattern may match others too.
@@ -116,7 +126,7 @@ impl Sentence<'_> {
     }
 
     // Appends the sentence on a fetch of one ref. Git completes a partial destination to a full name.
-    fn update_one(&mut self, src: &[u8], dst: &[u8], forced: bool) -> Result<(), AllocError> {
+    fn update_one(&mut self, src: &[u8], dst: &[u8]) -> Result<(), AllocError> {
         if dst == b"@".as_slice() {
             return self.write("Fetches nothing: Git refuses @ as a destination.");
         }
@@ -130,7 +140,7 @@ impl Sentence<'_> {
         } else {
             Update::of(dst)
         };
-        self.write(update.end(forced))?;
+        self.end(update)?;
         if dst.starts_with(b"heads/") {
             self.write(" Git does so, and refspec plan; refspec_map maps it to ")?;
             self.name_in("refs/heads/", dst)?;
@@ -139,14 +149,12 @@ impl Sentence<'_> {
         Ok(())
     }
 
-    // Appends the sentence on a spec for a push. Without a destination it pushes to the name of its source.
-    fn push(&mut self, push: Push<'_>, is_one_sided: bool) -> Result<(), AllocError> {
+    // Appends the sentence on a spec for a push.
+    fn push(&mut self, push: Push<'_>) -> Result<(), AllocError> {
         match push {
-            Push::AllMatchingBranches {
-                allow_non_fast_forward,
-            } => {
+            Push::AllMatchingBranches { .. } => {
                 self.write("Pushes each local branch that the remote has too")?;
-                self.write(Update::Branch.end(allow_non_fast_forward))
+                self.end(Update::Branch)
             }
             Push::Delete { ref_or_pattern } if ref_or_pattern.as_bytes() == b"@".as_slice() => {
                 self.write("Deletes nothing: Git refuses @ as a destination.")
@@ -156,40 +164,43 @@ impl Sentence<'_> {
                 self.name(ref_or_pattern.as_bytes())?;
                 self.write(" on the remote.")
             }
-            Push::Matching {
-                src,
-                dst,
-                allow_non_fast_forward,
-            } => {
-                let (src, dst) = (src.as_bytes(), dst.as_bytes());
-                if is_pattern(src) && !may_be_below_refs(src) {
-                    return self.nothing("Pushes", src);
-                }
-                if dst == b"@".as_slice() {
-                    return self.write("Pushes nothing: Git refuses @ as a destination.");
-                }
-                if is_one_sided && is_id(src) {
-                    return self.write(
-                        "Pushes nothing: an object id needs a destination, as in ID:refs/heads/x.",
-                    );
-                }
-                if is_pattern(dst) && !may_be_below_refs(dst) {
-                    self.write("Pushes nothing: the remote refuses ")?;
-                    self.name(dst)?;
-                    return self.write(", which is not below refs/.");
-                }
-                self.pushed(src, dst, is_one_sided)?;
-                let update = if is_one_sided && src == b"HEAD".as_slice() {
-                    Update::Branch
-                } else if may_be_below_refs(dst) {
-                    Update::of(dst)
-                } else {
-                    Update::Either
-                };
-                self.write(update.end(allow_non_fast_forward))
-            }
+            Push::Matching { src, dst, .. } => self.push_to(src.as_bytes(), dst.as_bytes()),
             Push::Exclude { src } => self.exclusion(src.as_bytes(), "push"),
         }
+    }
+
+    // Appends the sentence on a push to a destination, which is the source if the spec has none.
+    fn push_to(&mut self, src: &[u8], dst: &[u8]) -> Result<(), AllocError> {
+        if is_pattern(src) && !may_be_below_refs(src) {
+            return self.nothing("Pushes", src);
+        }
+        if dst == b"@".as_slice() {
+            return self.write("Pushes nothing: Git refuses @ as a destination.");
+        }
+        if self.is_one_sided && is_id(src) {
+            return self.write(
+                "Pushes nothing: an object id needs a destination, as in ID:refs/heads/x.",
+            );
+        }
+        if is_pattern(dst) && !may_be_below_refs(dst) {
+            self.write("Pushes nothing: the remote refuses ")?;
+            self.name(dst)?;
+            return self.write(", which is not below refs/.");
+        }
+        self.pushed(src, dst)?;
+        let update = if self.is_current_branch(src) {
+            Update::Branch
+        } else if may_be_below_refs(dst) {
+            Update::of(dst)
+        } else {
+            Update::Either
+        };
+        self.end(update)
+    }
+
+    // Whether the spec pushes the current branch to that of its name: its only side is `HEAD`.
+    fn is_current_branch(&self, src: &[u8]) -> bool {
+        self.is_one_sided && src == b"HEAD".as_slice()
     }
 
     // Appends the sentence on a pattern that can match no ref.
@@ -201,13 +212,13 @@ impl Sentence<'_> {
     }
 
     // Appends what is pushed, and where to.
-    fn pushed(&mut self, src: &[u8], dst: &[u8], is_one_sided: bool) -> Result<(), AllocError> {
-        if is_one_sided && src == b"HEAD".as_slice() {
+    fn pushed(&mut self, src: &[u8], dst: &[u8]) -> Result<(), AllocError> {
+        if self.is_current_branch(src) {
             return self.write("Pushes the current branch to the branch of its name on the remote");
         }
         self.write("Pushes ")?;
         self.refs(src, "of this repository")?;
-        if is_one_sided && !may_be_below_refs(src) {
+        if self.is_one_sided && !may_be_below_refs(src) {
             return self.write(" to the ref of its full name on the remote");
         }
         if !may_be_below_refs(dst) {
@@ -240,6 +251,15 @@ impl Sentence<'_> {
         self.write(", whatever the other specs ")?;
         self.write(operation)?;
         self.write(".")
+    }
+
+    // Appends the end of the sentence on an update.
+    fn end(&mut self, update: Update) -> Result<(), AllocError> {
+        self.write(if self.is_forced {
+            update.forced_end()
+        } else {
+            update.unforced_end()
+        })
     }
 
     // Appends the refs that a side selects, and where they are.

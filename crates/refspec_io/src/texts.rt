@@ -74,7 +74,7 @@ pub struct Texts<'a> {
 }
 
 /// The texts of the specs of a call: those among its arguments, those of the file of specs, and those of its input;
-/// a plan has configured specs in the place of its input, and `stale` nothing. If the call reads settings,
+/// a plan has configured specs in the place of its input, and `stale` and `why` nothing. If the call reads settings,
 /// `settings` has those of both, and all are configured.
 pub fn texts_of<'a>(
     alloc: Global,
@@ -113,13 +113,13 @@ pub fn texts_of<'a>(
 }
 
 /// What a command reads as specs besides its arguments and the file of specs: its input, but for a plan the
-/// configured specs, and for `stale` nothing, since their input is refs.
+/// configured specs, and for `stale` and `why` nothing, since their input is refs.
 pub fn spec_input<'a>(command: Command, configured: &'a [u8], input: &'a [u8]) -> &'a [u8]
     ensures { result.now ≡ spec_input command configured.now input.now }
 {
     match command {
         Command::Plan => configured,
-        Command::Stale => b"",
+        Command::Stale | Command::Why => b"",
         _ => input,
     }
 }

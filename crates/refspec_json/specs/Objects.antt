@@ -221,3 +221,70 @@ warning_object name location specs message advice = object (
     member (codes "name") (string name) (
     member (codes "place") (string location) (
     member (codes "specs") (array (items_of (map warned_object specs))) no_members))))))
+
+-- the upstream of a branch, the ref that it merges, and the spec that stores that there, or null if that is a local
+-- branch; the branch is a member only if it is given
+abbrev pub upstream_object : (branch : Option (List ℕ)) → (merge name : List ℕ) → (spec : Option (List ℕ)) → Data
+upstream_object branch merge name spec = object (
+    text_if (codes "branch") branch (
+    member (codes "kind") (string (codes "upstream")) (
+    member (codes "merge") (string merge) (
+    member (codes "name") (string name) (
+    member (codes "spec") (text_or_null spec) no_members)))))
+
+-- a merged ref without an upstream, the spec that is the reason if one is, a sentence on it and what to do
+abbrev pub no_upstream_object : (branch : Option (List ℕ)) → (merge : List ℕ) → (spec : Option (List ℕ))
+    → (message advice : List ℕ) → Data
+no_upstream_object branch merge spec message advice = object (
+    member (codes "advice") (string advice) (
+    text_if (codes "branch") branch (
+    member (codes "kind") (string (codes "no_upstream")) (
+    member (codes "merge") (string merge) (
+    member (codes "message") (string message) (
+    member (codes "spec") (text_or_null spec) no_members))))))
+
+-- a spec, and what a prefetch applies in place of it
+abbrev pub prefetch_object : (spec prefetch : List ℕ) → Data
+prefetch_object spec prefetch = object (
+    member (codes "kind") (string (codes "prefetch")) (
+    member (codes "prefetch") (string prefetch) (
+    member (codes "spec") (string spec) no_members)))
+
+-- a spec that a prefetch ignores, and a sentence on it
+abbrev pub ignored_object : (spec message : List ℕ) → Data
+ignored_object spec message = object (
+    member (codes "kind") (string (codes "ignored")) (
+    member (codes "message") (string message) (
+    member (codes "spec") (string spec) no_members)))
+
+-- a value, and what a new name of its remote makes of it
+abbrev pub renamed_object : (text renamed : List ℕ) → Data
+renamed_object text renamed = object (
+    member (codes "kind") (string (codes "renamed")) (
+    member (codes "renamed") (string renamed) (
+    member (codes "text") (string text) no_members)))
+
+-- a value that a new name of its remote leaves as it is, and a sentence on it
+abbrev pub unchanged_object : (text message : List ℕ) → Data
+unchanged_object text message = object (
+    member (codes "kind") (string (codes "unchanged")) (
+    member (codes "message") (string message) (
+    member (codes "text") (string text) no_members)))
+
+-- what a spec does with a ref: the destination or null, in a word what becomes of the ref, and a sentence on it
+abbrev pub fate_object : (spec name : List ℕ) → (destination : Option (List ℕ)) → (fate message : List ℕ) → Data
+fate_object spec name destination fate message = object (
+    member (codes "destination") (text_or_null destination) (
+    member (codes "fate") (string fate) (
+    member (codes "kind") (string (codes "fate")) (
+    member (codes "message") (string message) (
+    member (codes "name") (string name) (
+    member (codes "spec") (string spec) no_members))))))
+
+-- a ref that isn't fetched, a sentence on it and what to do
+abbrev pub not_fetched_object : (name message advice : List ℕ) → Data
+not_fetched_object name message advice = object (
+    member (codes "advice") (string advice) (
+    member (codes "kind") (string (codes "not_fetched")) (
+    member (codes "message") (string message) (
+    member (codes "name") (string name) no_members))))

@@ -77,9 +77,11 @@ not_added = (
     once found split = records_once 10 found (codes "a" ∷ []) (codes "a\n") split one_record.0
 
 -- the input of a plan isn't read as specs, but the configured ones are; that of other commands is, except for `stale`
+-- and `why`
 pub inputs : (spec_input command.Plan (codes "c\n") (codes "a\n") ≡ codes "c\n")
     × (spec_input command.Stale (codes "c\n") (codes "a\n") ≡ [])
+    × (spec_input command.Why (codes "c\n") (codes "a\n") ≡ [])
     × (spec_input command.Check [] (codes "a\n") ≡ codes "a\n")
     × (spec_input command.Canon [] (codes "a\n") ≡ codes "a\n")
     × (spec_input command.Track [] (codes "a\n") ≡ codes "a\n")
-inputs = (refl, refl, refl, refl, refl)
+inputs = (refl, refl, refl, refl, refl, refl)

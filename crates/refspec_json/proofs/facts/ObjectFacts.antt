@@ -6,6 +6,8 @@ use Rattle.refspec_json.specs.Objects.{line_of, refused_object, spec_object, map
 use Rattle.refspec_json.specs.Objects.{overruled_object, left_out_object, conflict_object, missing_object, stale_object}
 use Rattle.refspec_json.specs.Objects.{kept_object, malformed_object, untracked_object, ambiguous_object}
 use Rattle.refspec_json.specs.Objects.{line_with_remote, prefix_object, noted_object, nothing_object}
+use Rattle.refspec_json.specs.Objects.{upstream_object, no_upstream_object, prefetch_object, ignored_object}
+use Rattle.refspec_json.specs.Objects.{renamed_object, unchanged_object, fate_object, not_fetched_object}
 
 -- a source with a fault, and an empty text
 pub refused :
@@ -124,3 +126,46 @@ noted = (refl, refl)
 pub nothing : line_of (nothing_object (codes "m")) ≡ codes "{\"kind\":\"nothing\",\"message\":\"m\"}" ++ 10 ∷ []
 unfolding serde_json_on_literals
 nothing = refl
+
+-- an upstream with and without a branch, and that of a local branch
+pub upstream : (line_of (upstream_object None (codes "m") (codes "u") (Some (codes "s")))
+    ≡ codes "{\"kind\":\"upstream\",\"merge\":\"m\",\"name\":\"u\",\"spec\":\"s\"}" ++ 10 ∷ [])
+    × (line_of (upstream_object (Some (codes "b")) (codes "m") (codes "m") None)
+    ≡ codes "{\"branch\":\"b\",\"kind\":\"upstream\",\"merge\":\"m\",\"name\":\"m\",\"spec\":null}"
+    ++ 10 ∷ [])
+unfolding serde_json_on_literals
+upstream = (refl, refl)
+
+pub no_upstream : (line_of (no_upstream_object None (codes "m") None (codes "t") (codes "d"))
+    ≡ codes
+    "{\"advice\":\"d\",\"kind\":\"no_upstream\",\"merge\":\"m\",\"message\":\"t\",\"spec\":null}"
+    ++ 10 ∷ [])
+    × (line_of (no_upstream_object (Some (codes "b")) (codes "m") (Some (codes "s")) (codes "t") (codes "d"))
+    ≡ codes
+    "{\"advice\":\"d\",\"branch\":\"b\",\"kind\":\"no_upstream\",\"merge\":\"m\",\"message\":\"t\",\"spec\":\"s\"}"
+    ++ 10 ∷ [])
+unfolding serde_json_on_literals
+no_upstream = (refl, refl)
+
+pub prefetch : (line_of (prefetch_object (codes "s") (codes "p"))
+    ≡ codes "{\"kind\":\"prefetch\",\"prefetch\":\"p\",\"spec\":\"s\"}" ++ 10 ∷ [])
+    × (line_of (ignored_object (codes "s") (codes "m"))
+    ≡ codes "{\"kind\":\"ignored\",\"message\":\"m\",\"spec\":\"s\"}" ++ 10 ∷ [])
+unfolding serde_json_on_literals
+prefetch = (refl, refl)
+
+pub renamed : (line_of (renamed_object (codes "t") (codes "r"))
+    ≡ codes "{\"kind\":\"renamed\",\"renamed\":\"r\",\"text\":\"t\"}" ++ 10 ∷ [])
+    × (line_of (unchanged_object (codes "t") (codes "m"))
+    ≡ codes "{\"kind\":\"unchanged\",\"message\":\"m\",\"text\":\"t\"}" ++ 10 ∷ [])
+unfolding serde_json_on_literals
+renamed = (refl, refl)
+
+pub fate : (line_of (fate_object (codes "s") (codes "n") (Some (codes "d")) (codes "f") (codes "m"))
+    ≡ codes
+    "{\"destination\":\"d\",\"fate\":\"f\",\"kind\":\"fate\",\"message\":\"m\",\"name\":\"n\",\"spec\":\"s\"}"
+    ++ 10 ∷ [])
+    × (line_of (not_fetched_object (codes "n") (codes "m") (codes "d"))
+    ≡ codes "{\"advice\":\"d\",\"kind\":\"not_fetched\",\"message\":\"m\",\"name\":\"n\"}" ++ 10 ∷ [])
+unfolding serde_json_on_literals
+fate = (refl, refl)
