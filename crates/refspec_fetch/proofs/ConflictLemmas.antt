@@ -1,5 +1,5 @@
 -- The lines and the objects on conflicts, part by part.
-use Rattle.std.proofs.Common.{◌≡◌, ℕ, ◌+◌, ◌-◌, ◌<◌, Bool, List, [], ◌∷◌, ◌++◌, Option, Some, None, drop, length, map}
+use Rattle.std.proofs.Common.{◌≡◌, ℕ, ◌+◌, ◌-◌, ◌<◌, List, [], ◌∷◌, ◌++◌, Option, Some, None, drop, length, map}
 use Rattle.std.proofs.Common.{take, take_all, get_or, codes, refl, sym, ap, ◌∙◌, subst, append_assoc, arith}
 use Rattle.std.specs.List.{filter_map, slice_get}
 use Rattle.std.proofs.lemmas.List.{append-nil, length-drop, length-map, map-append, map_more, take-map, take_more}
@@ -8,6 +8,7 @@ use Rattle.gix_refspec_plan.specs.Matching.Plan.{Planned}
 use Rattle.refspec_json.specs.Objects.{Claimed, conflict_object, line_of}
 use Rattle.refspec_io.specs.declared.call.Form.{Form}
 use Rattle.refspec_io.specs.declared.call.Form.TheVariants as form
+use Rattle.refspec_io.specs.declared.call.Limit.{Limit}
 use Rattle.refspec_io.specs.Counts.{more_line, reported_count}
 use Rattle.refspec_io.specs.Json.{AddsObjects, json_text}
 use Rattle.refspec_io.specs.Rows.{source_text}
@@ -199,47 +200,49 @@ AddsEachConflict-next f g texts ps xs i x old mid new below is same a b =
 -- ---- the first conflicts, and how many more
 
 -- the first n elements, mapped
-pub first_of : {X Y : Type 0} (h : X → Y) (f : Form) (all : Bool) (xs first : List X) (n : ℕ)
-    → n ≡ reported_count f all (length xs) → first ≡ take n xs
-    → map h first ≡ take (reported_count f all (length (map h xs))) (map h xs)
-first_of h f all xs first n is split =
-    let long : n ≡ reported_count f all (length (map h xs)) = is ∙ ap (reported_count f all) (sym (length-map xs h)) in
+pub first_of : {X Y : Type 0} (h : X → Y) (f : Form) (limit : Limit) (xs first : List X) (n : ℕ)
+    → n ≡ reported_count f limit (length xs) → first ≡ take n xs
+    → map h first ≡ take (reported_count f limit (length (map h xs))) (map h xs)
+first_of h f limit xs first n is split =
+    let long : n ≡ reported_count f limit (length (map h xs)) = is ∙ ap (reported_count f limit)
+    (sym (length-map xs h)) in
     ap (map h) split ∙ (sym (take-map h n xs) ∙ ap (λ (k : ℕ). take k (map h xs)) long)
 
 -- the number of elements after the first n
-pub others_of : {X Y : Type 0} (h : X → Y) (f : Form) (all : Bool) (xs rest : List X) (n : ℕ)
-    → n ≡ reported_count f all (length xs) → rest ≡ drop n xs → length rest ≡ length (map h xs) - reported_count f all
+pub others_of : {X Y : Type 0} (h : X → Y) (f : Form) (limit : Limit) (xs rest : List X) (n : ℕ)
+    → n ≡ reported_count f limit (length xs) → rest ≡ drop n xs → length rest ≡ length (map h xs) - reported_count f
+    limit
     (length (map h xs))
-others_of h f all xs rest n is split =
+others_of h f limit xs rest n is split =
     let size = length-map xs h in
     ap length split
     ∙ (length-drop n xs
-    ∙ (ap (λ (k : ℕ). length xs - k) is ∙ ap (λ (k : ℕ). k - reported_count f all k) (sym size)))
+    ∙ (ap (λ (k : ℕ). length xs - k) is ∙ ap (λ (k : ℕ). k - reported_count f limit k) (sym size)))
 
 -- the first objects in JSON are all of them; in other forms there are none
-pub AddsObjects-first : {X : Type 0} (f : Form) (Reports : X → List ℕ → Type 0) (all : Bool) (xs : List X)
-    (old new : List ℕ) → AddsObjects f Reports (take (reported_count f all (length xs)) xs) old new
+pub AddsObjects-first : {X : Type 0} (f : Form) (Reports : X → List ℕ → Type 0) (limit : Limit) (xs : List X)
+    (old new : List ℕ) → AddsObjects f Reports (take (reported_count f limit (length xs)) xs) old new
     → AddsObjects f Reports xs old new
-AddsObjects-first form.Json Reports all xs old new reported = subst (λ l. AddsObjects form.Json Reports l old new)
+AddsObjects-first form.Json Reports limit xs old new reported = subst (λ l. AddsObjects form.Json Reports l old new)
     (take_all (length xs) xs (omega arith)) reported
-AddsObjects-first form.Lines Reports all xs old new reported = reported
-AddsObjects-first form.Zeros Reports all xs old new reported = reported
+AddsObjects-first form.Lines Reports limit xs old new reported = reported
+AddsObjects-first form.Zeros Reports limit xs old new reported = reported
 
 -- the first conflicts, and how many more there are
-pub AddsConflictLines-of : (f : Form) (texts : SpecTexts) (all : Bool) (cs : List Contest) (n : ℕ)
-    (old mid new : List ℕ) → n ≡ length cs - reported_count f all (length cs)
-    → AddsEachConflict f texts (take (reported_count f all (length cs)) cs) old mid
-    → new ≡ mid ++ more_line (codes "conflict: ") n → AddsConflictLines all f texts cs old new
-AddsConflictLines-of form.Json texts all cs n old mid new is same more =
+pub AddsConflictLines-of : (f : Form) (texts : SpecTexts) (limit : Limit) (cs : List Contest) (n : ℕ)
+    (old mid new : List ℕ) → n ≡ length cs - reported_count f limit (length cs)
+    → AddsEachConflict f texts (take (reported_count f limit (length cs)) cs) old mid
+    → new ≡ mid ++ more_line (codes "conflict: ") n → AddsConflictLines limit f texts cs old new
+AddsConflictLines-of form.Json texts limit cs n old mid new is same more =
     let none : n ≡ 0 = omega (arith, is) in
     more ∙ (ap (λ (k : ℕ). mid ++ more_line (codes "conflict: ") k) none ∙ (append-nil mid ∙ same))
-AddsConflictLines-of form.Lines texts all cs n old mid new is (lines, reported, write) more = (
+AddsConflictLines-of form.Lines texts limit cs n old mid new is (lines, reported, write) more = (
   lines,
   reported,
   behind old lines mid (more_line (codes "conflict: ") n) new write more
       ∙ ap (λ (k : ℕ). old ++ (lines ++ more_line (codes "conflict: ") k)) is,
 )
-AddsConflictLines-of form.Zeros texts all cs n old mid new is (lines, reported, write) more = (
+AddsConflictLines-of form.Zeros texts limit cs n old mid new is (lines, reported, write) more = (
   lines,
   reported,
   behind old lines mid (more_line (codes "conflict: ") n) new write more

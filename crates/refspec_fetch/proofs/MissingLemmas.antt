@@ -1,10 +1,11 @@
 -- The lines and the objects on missing sources, in order.
-use Rattle.std.proofs.Common.{◌≡◌, ℕ, ◌+◌, ◌<◌, Bool, List, [], ◌∷◌, ◌++◌, ap, append_assoc, codes, get_or, length}
-use Rattle.std.proofs.Common.{refl, subst, sym, take, ◌∙◌}
+use Rattle.std.proofs.Common.{◌≡◌, ℕ, ◌+◌, ◌<◌, List, [], ◌∷◌, ◌++◌, ap, append_assoc, codes, get_or, length, refl}
+use Rattle.std.proofs.Common.{subst, sym, take, ◌∙◌}
 use Rattle.std.proofs.lemmas.List.{append-nil, take_more}
 use Rattle.gix_refspec_plan.specs.declared.Origin.{Origin}
 use Rattle.refspec_io.specs.declared.call.Form.{Form}
 use Rattle.refspec_io.specs.declared.call.Form.TheVariants as form
+use Rattle.refspec_io.specs.declared.call.Limit.{Limit}
 use Rattle.refspec_io.specs.Shown.{Grows, WritesQuoted}
 use Rattle.refspec_io.proofs.JsonLemmas.{AddsObjects-item, AddsObjects-one, AddsObjects-start, AreInOrder-append}
 use Rattle.refspec_io.proofs.ShownLemmas.{behind}
@@ -46,14 +47,15 @@ WritesMissing-then text o old mid new (lines, is, write) (more, grown) =
     )
 
 -- the object on one spec
-pub AddsMissing-object : (all : Bool) (f : Form) (texts : SpecTexts) (o : Origin) (text before after old new : List ℕ)
-    → f ≡ form.Json → text ≡ text_of texts o → WritesMissingObject all text o old new → after ≡ before
-    → AddsMissing all f texts (o ∷ []) before after old new
-AddsMissing-object all f texts o text before after old new is same write kept =
-    let (line, object, grown) = subst (λ (t : List ℕ). WritesMissingObject all t o old new) same write in
+pub AddsMissing-object : (limit : Limit) (f : Form) (texts : SpecTexts) (o : Origin)
+    (text before after old new : List ℕ)
+    → f ≡ form.Json → text ≡ text_of texts o → WritesMissingObject limit text o old new → after ≡ before
+    → AddsMissing limit f texts (o ∷ []) before after old new
+AddsMissing-object limit f texts o text before after old new is same write kept =
+    let (line, object, grown) = subst (λ (t : List ℕ). WritesMissingObject limit t o old new) same write in
     record {
       messages = subst (λ (x : Form). AddsLinesOnMissing x texts (o ∷ []) before after) (sym is) kept;
-      objects = AddsObjects-one f (IsMissingObjectOf all texts) o line old new is object grown;
+      objects = AddsObjects-one f (IsMissingObjectOf limit texts) o line old new is object grown;
     }
 
 AddsLinesOnMissing-push : (f g : Form) (texts : SpecTexts) (os : List Origin) (o : Origin) (old mid new : List ℕ)
@@ -74,28 +76,29 @@ AddsLinesOnMissing-push form.Zeros g texts os o old mid new same a b =
       behind old a.0 mid lines new a.2 write,
     )
 
-pub AddsMissing-start : (all : Bool) (f : Form) (texts : SpecTexts) (before old : List ℕ)
-    → AddsMissing all f texts [] before before old old
-AddsMissing-start all form.Json texts before old =
-    record { messages = refl; objects = AddsObjects-start form.Json (IsMissingObjectOf all texts) old }
-AddsMissing-start all form.Lines texts before old = record {
+pub AddsMissing-start : (limit : Limit) (f : Form) (texts : SpecTexts) (before old : List ℕ)
+    → AddsMissing limit f texts [] before before old old
+AddsMissing-start limit form.Json texts before old =
+    record { messages = refl; objects = AddsObjects-start form.Json (IsMissingObjectOf limit texts) old }
+AddsMissing-start limit form.Lines texts before old = record {
   messages = ([], refl, sym (append-nil before));
   objects =
       refl;
 }
-AddsMissing-start all form.Zeros texts before old = record {
+AddsMissing-start limit form.Zeros texts before old = record {
   messages = ([], refl, sym (append-nil before));
   objects =
       refl;
 }
 
 -- one more spec
-pub AddsMissing-next : (all : Bool) (f g : Form) (texts : SpecTexts) (os : List Origin) (i : ℕ) (d : Origin)
+pub AddsMissing-next : (limit : Limit) (f g : Form) (texts : SpecTexts) (os : List Origin) (i : ℕ) (d : Origin)
     (before after last old mid new : List ℕ) → i < length os → g ≡ f
-    → AddsMissing all f texts (take i os) before after old mid → AddsMissing all g texts (get_or os i d ∷ []) after last
-    mid new → AddsMissing all f texts (take (i + 1) os) before last old new
-AddsMissing-next all f g texts os i d before after last old mid new below same a b = record {
+    → AddsMissing limit f texts (take i os) before after old mid → AddsMissing limit g texts (get_or os i d ∷ []) after
+    last
+    mid new → AddsMissing limit f texts (take (i + 1) os) before last old new
+AddsMissing-next limit f g texts os i d before after last old mid new below same a b = record {
   messages = subst (λ (l : List Origin). AddsLinesOnMissing f texts l before last) (sym (take_more os i d below))
       (AddsLinesOnMissing-push f g texts (take i os) (get_or os i d) before after last same a.messages b.messages);
-  objects = AddsObjects-item f g (IsMissingObjectOf all texts) os i d old mid new below same a.objects b.objects;
+  objects = AddsObjects-item f g (IsMissingObjectOf limit texts) os i d old mid new below same a.objects b.objects;
 }

@@ -1,6 +1,6 @@
 -- How the conflicts of a plan are reported: in lines among the messages, or as JSON objects in the results. This
 -- project's own rule.
-use Rattle.std.specs.Prelude.{◌≡◌, ◌≢◌, ◌⊎◌, ◌↔◌, ℕ, ◌-◌, Bool, List, [], ◌∷◌, ◌++◌, Some, length, map, take}
+use Rattle.std.specs.Prelude.{◌≡◌, ◌≢◌, ◌⊎◌, ◌↔◌, ℕ, ◌-◌, List, [], ◌∷◌, ◌++◌, Some, length, map, take}
 use Rattle.std.specs.Prelude.{option_map, unwrap_or, codes}
 use Rattle.bstr.specs.Owned.{bstring_bytes}
 use Rattle.std.specs.declared.cmp.Ordering.{Ordering}
@@ -16,6 +16,7 @@ use Rattle.gix_refspec_plan.specs.Matching.Plan.{Planned}
 use Rattle.refspec_json.specs.Objects.{Claimed, conflict_object, line_of}
 use Rattle.refspec_io.specs.declared.call.Form.{Form}
 use Rattle.refspec_io.specs.declared.call.Form.TheVariants as form
+use Rattle.refspec_io.specs.declared.call.Limit.{Limit}
 use Rattle.refspec_io.specs.Counts.{few, more_line}
 use Rattle.refspec_io.specs.Json.{AddsObjects, json_text}
 use Rattle.refspec_io.specs.Rows.{source_text}
@@ -131,12 +132,12 @@ abbrev pub AddsEachConflict : Form → SpecTexts → List Contest → List ℕ �
 AddsEachConflict form.Json texts cs old new = new ≡ old
 AddsEachConflict _ texts cs old new = (lines : List ℕ) × AreReportedConflicts texts cs lines × (new ≡ old ++ lines)
 
--- the messages grew by the lines on the first conflicts, or on all, and by how many more there are; in JSON they stayed
-abbrev pub AddsConflictLines : Bool → Form → SpecTexts → List Contest → List ℕ → List ℕ → Type 0
-AddsConflictLines all form.Json texts cs old new = new ≡ old
-AddsConflictLines all _ texts cs old new =
-    (lines : List ℕ) × AreReportedConflicts texts (take (few all (length cs)) cs) lines
-    × (new ≡ old ++ (lines ++ more_line (codes "conflict: ") (length cs - few all (length cs))))
+-- the messages grew by the lines on the conflicts within a limit, and by how many more there are; in JSON they stayed
+abbrev pub AddsConflictLines : Limit → Form → SpecTexts → List Contest → List ℕ → List ℕ → Type 0
+AddsConflictLines limit form.Json texts cs old new = new ≡ old
+AddsConflictLines limit _ texts cs old new =
+    (lines : List ℕ) × AreReportedConflicts texts (take (few limit (length cs)) cs) lines
+    × (new ≡ old ++ (lines ++ more_line (codes "conflict: ") (length cs - few limit (length cs))))
 
 -- the source of each update, the text of its spec and its origin, as JSON strings
 abbrev pub claim_with : List ℕ → List ℕ → Origin → Claimed
@@ -157,9 +158,9 @@ abbrev pub IsConflict : SpecTexts → Contest → List ℕ → Type 0
 IsConflict texts c line = line ≡ conflict_line texts c
 
 -- the conflicts of updates are reported
-pub record AddsConflicts (all : Bool) (form : Form) (texts : SpecTexts) (ps : List Planned)
+pub record AddsConflicts (limit : Limit) (form : Form) (texts : SpecTexts) (ps : List Planned)
     (before after old new : List ℕ) : Type 0 where
   pub contests : List Contest
   pub are : AreContests ps contests
-  pub messages : AddsConflictLines all form texts contests before after
+  pub messages : AddsConflictLines limit form texts contests before after
   pub objects : AddsObjects form (IsConflict texts) contests old new

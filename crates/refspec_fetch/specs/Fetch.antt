@@ -39,7 +39,7 @@ subject_of call = subject_by call.command call.prune
 
 -- how a call shows the answer
 abbrev pub style_of : Call → Style
-style_of call = record { long = call.long; all = call.all; is_watched = call.is_watched; local = call.local }
+style_of call = record { long = call.long; limit = call.limit; is_watched = call.is_watched; local = call.local }
 
 -- the list of local refs, which is empty unless the call asks about them
 abbrev pub local_if : Bool → Task → List ℕ

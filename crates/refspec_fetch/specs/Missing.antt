@@ -1,10 +1,11 @@
 -- How the specs whose source the remote lacks are reported. This project's own rule. Which names of the remote are
 -- listed is left open.
-use Rattle.std.specs.Prelude.{◌≡◌, ℕ, zero, suc, ◌-◌, Bool, List, ◌∷◌, ◌++◌, Option, None, Some, codes, length}
+use Rattle.std.specs.Prelude.{◌≡◌, ℕ, zero, suc, ◌-◌, List, ◌∷◌, ◌++◌, Option, None, Some, codes, length}
 use Rattle.gix_refspec_plan.specs.declared.Origin.{Origin}
 use Rattle.refspec_json.specs.Objects.{line_of, missing_object}
 use Rattle.refspec_io.specs.declared.call.Form.{Form}
 use Rattle.refspec_io.specs.declared.call.Form.TheVariants as form
+use Rattle.refspec_io.specs.declared.call.Limit.{Limit}
 use Rattle.refspec_io.specs.Counts.{few}
 use Rattle.refspec_io.specs.Json.{AddsObjects, AreInOrder, json_text}
 use Rattle.refspec_io.specs.Shown.{IsQuoted}
@@ -32,24 +33,24 @@ some_more zero = None
 some_more (suc n) = Some (suc n)
 
 -- the object of such a spec, as a line: of so many names of the remote at most 20, or all, and how many more there are
-pub record IsMissingObject (all : Bool) (text : List ℕ) (origin : Origin) (line : List ℕ) : Type 0 where
+pub record IsMissingObject (limit : Limit) (text : List ℕ) (origin : Origin) (line : List ℕ) : Type 0 where
   pub count : ℕ
   pub names : List (List ℕ)
-  pub listed : length names ≡ few all count
+  pub listed : length names ≡ few limit count
   pub is : line ≡ line_of (missing_object (json_text text) (origin_name origin) sentence names
-      (some_more (count - few all count)))
+      (some_more (count - few limit count)))
 
 -- bytes grew by that line
-abbrev pub WritesMissingObject : Bool → List ℕ → Origin → List ℕ → List ℕ → Type 0
-WritesMissingObject all text origin old new = (line : List ℕ) × IsMissingObject all text origin line
+abbrev pub WritesMissingObject : Limit → List ℕ → Origin → List ℕ → List ℕ → Type 0
+WritesMissingObject limit text origin old new = (line : List ℕ) × IsMissingObject limit text origin line
     × (new ≡ old ++ line)
 
 -- the same, given the texts of all specs
 abbrev pub IsMissingOf : SpecTexts → Origin → List ℕ → Type 0
 IsMissingOf texts origin lines = IsMissingLines (text_of texts origin) origin lines
 
-abbrev pub IsMissingObjectOf : Bool → SpecTexts → Origin → List ℕ → Type 0
-IsMissingObjectOf all texts origin line = IsMissingObject all (text_of texts origin) origin line
+abbrev pub IsMissingObjectOf : Limit → SpecTexts → Origin → List ℕ → Type 0
+IsMissingObjectOf limit texts origin line = IsMissingObject limit (text_of texts origin) origin line
 
 -- the messages grew by the lines on each spec, in order; in JSON they stayed as they were
 abbrev pub AddsLinesOnMissing : Form → SpecTexts → List Origin → List ℕ → List ℕ → Type 0
@@ -58,7 +59,7 @@ AddsLinesOnMissing _ texts missing old new = (lines : List ℕ) × AreInOrder (I
     × (new ≡ old ++ lines)
 
 -- and in JSON the results grew by the objects
-pub record AddsMissing (all : Bool) (form : Form) (texts : SpecTexts) (missing : List Origin)
+pub record AddsMissing (limit : Limit) (form : Form) (texts : SpecTexts) (missing : List Origin)
     (before after old new : List ℕ) : Type 0 where
   pub messages : AddsLinesOnMissing form texts missing before after
-  pub objects : AddsObjects form (IsMissingObjectOf all texts) missing old new
+  pub objects : AddsObjects form (IsMissingObjectOf limit texts) missing old new

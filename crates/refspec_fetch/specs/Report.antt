@@ -63,10 +63,10 @@ AddsUnwrittenIf false texts planned old new = new ≡ old
 pub record AddsFirst (style : Style) (texts : SpecTexts) (a : Answer) (old new : Report) : Type 0 where
   pub first : Report
   pub second : Report
-  pub missing : AddsMissing style.all old.form texts a.missing old.messages first.messages old.results first.results
+  pub missing : AddsMissing style.limit old.form texts a.missing old.messages first.messages old.results first.results
   pub kept : first.form ≡ old.form
   pub unwritten : AddsUnwrittenIf (asks_updates a.question.subject) texts a.planned first second
-  pub conflicts : AddsConflicts style.all second.form texts (in_conflict_of a.planned)
+  pub conflicts : AddsConflicts style.limit second.form texts (in_conflict_of a.planned)
       second.messages new.messages second.results new.results
   pub form : new.form ≡ second.form
 

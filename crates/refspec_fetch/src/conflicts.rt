@@ -5,7 +5,10 @@ ghost use Rattle.std.specs.List.{slice_get};
 ghost use Rattle.std.specs.List.Sorted.{IsStrictlySortedBy};
 ghost use Rattle.refspec_json.specs.Views.{claim_texts};
 ghost use Rattle.refspec_io.specs.Json.{AddsObjects};
-ghost use Rattle.refspec_fetch.specs.Conflicts.{AddsConflictLines, AddsConflicts, AddsEachConflict, AreContests, AreOrdered, IsConflict, IsContestOf, IsRun, WritesClaim, WritesClaims, WritesConflict, claim_cmp, claim_with, claims_of, conflict_line, contest_of, those_at};
+ghost use Rattle.refspec_fetch.specs.Conflicts.{AddsConflicts, AddsEachConflict, AreContests, AreOrdered};
+ghost use Rattle.refspec_fetch.specs.Conflicts.{IsConflict, IsContestOf, IsRun, WritesClaim, WritesClaims};
+ghost use Rattle.refspec_fetch.specs.Conflicts.{WritesConflict, claim_cmp, claim_with, claims_of, conflict_line};
+ghost use Rattle.refspec_fetch.specs.Conflicts.{contest_of, those_at};
 ghost use Rattle.gix_refspec_plan.specs.Views.Plan.{planned_of};
 ghost use Rattle.refspec_fetch.specs.Origins.{note_of};
 ghost use Rattle.refspec_fetch.specs.Verdicts.{in_conflict_of};
@@ -14,7 +17,7 @@ use crate::origins::{SpecTexts, note_of, origin_name};
 use crate::updates::destination_or;
 use bstr::{BStr, BString};
 use gix_refspec_plan::{Origin, Update, Verdict};
-use refspec_io::call::Form;
+use refspec_io::call::{Form, Limit};
 use refspec_io::counts::{reported_count, write_more};
 use refspec_io::fields::source_of;
 use refspec_io::json;
@@ -43,40 +46,23 @@ struct Claimed<'u> {
     index: usize,
 }
 
-/// Reports the conflicts of updates, by their destinations: all in JSON or if `all`, else the first 20, and how many
-/// more there are.
+/// Reports the conflicts of updates, by their destinations: all in JSON, else those within a limit, and how many more
+/// there are.
 pub fn report_conflicts(
     alloc: Global,
     updates: &[Update<'_>],
     texts: &SpecTexts,
-    all: bool,
+    limit: Limit,
     report: &mut Report,
 ) -> Result<(), AllocError>
     ensures form { OnOk result (report.new.form ≡ report.old.form) }
-    ensures reported { OnOk result (AddsConflicts all report.old.form texts.now (in_conflict_of (map planned_of updates.now))
+    ensures reported { OnOk result (AddsConflicts limit report.old.form texts.now
+        (in_conflict_of (map planned_of updates.now))
         report.old.messages.items report.new.messages.items report.old.results.items report.new.results.items) }
 {
     let contests = contests_of(alloc, updates)?;
-    report_contests(alloc, contests.as_slice(), updates, texts, all, report)
-}
-
-// Reports conflicts: all in JSON or if `all`, else the first 20, and how many more there are.
-fn report_contests(
-    alloc: Global,
-    contests: &[Contest],
-    updates: &[Update<'_>],
-    texts: &SpecTexts,
-    all: bool,
-    report: &mut Report,
-) -> Result<(), AllocError>
-    ensures form { OnOk result (report.new.form ≡ report.old.form) }
-    ensures objects { OnOk result (AddsObjects report.old.form (IsConflict texts.now)
-        (map (contest_of (map planned_of updates.now)) contests.now) report.old.results.items report.new.results.items) }
-    ensures reported { OnOk result (AddsConflictLines all report.old.form texts.now
-        (map (contest_of (map planned_of updates.now)) contests.now)
-        report.old.messages.items report.new.messages.items) }
-{
-    let (reported, more) = contests.split_at(reported_count(report.form, all, contests.len()));
+    let all = contests.as_slice();
+    let (reported, more) = all.split_at(reported_count(report.form, limit, all.len()));
     report_all_conflicts(alloc, reported, updates, texts, report)?;
     write_more("conflict: ", more.len(), &mut report.messages)
 }

@@ -179,7 +179,7 @@ fn style_of<'a>(call: &Call<'a>) -> Style<'a>
 {
     Style {
         long: call.long,
-        all: call.all,
+        limit: call.limit,
         is_watched: call.is_watched,
         local: call.local,
     }

@@ -27,6 +27,13 @@ pub fn write_rows(
     Ok(())
 }
 
+/// How the lines of updates are laid out, and the texts of their specs.
+#[derive(Clone, Copy)]
+pub struct Table<'a> {
+    pub layout: &'a Layout,
+    pub texts: &'a SpecTexts,
+}
+
 // Appends an update as a line, if it is written.
 fn add_short(
     alloc: Global,
@@ -45,16 +52,16 @@ fn add_short(
 /// Appends the updates that are written, each in a line, and the text of a spec in a line wherever the spec changes.
 pub fn write_grouped(
     alloc: Global,
-    layout: &Layout,
+    table: &Table<'_>,
     updates: &[Update<'_>],
-    texts: &SpecTexts,
     out: &mut Vec<u8>,
 ) -> Result<(), AllocError>
-    ensures { OnOk result (AddsGrouped texts.now (written_of (map planned_of updates.now)) out.old.items out.new.items) }
+    ensures { OnOk result (AddsGrouped table.now.texts.now (written_of (map planned_of updates.now))
+        out.old.items out.new.items) }
 {
     let mut before: Option<Origin> = None;
     for update in updates {
-        add_below(alloc, layout, &mut before, update, texts, out)?;
+        add_below(alloc, table, &mut before, update, out)?;
     }
     Ok(())
 }
@@ -62,19 +69,18 @@ pub fn write_grouped(
 // Appends an update as a line, if it is written, behind the text of its spec if that changes. It becomes the previous one.
 fn add_below(
     alloc: Global,
-    layout: &Layout,
+    table: &Table<'_>,
     before: &mut Option<Origin>,
     update: &Update<'_>,
-    texts: &SpecTexts,
     out: &mut Vec<u8>,
 ) -> Result<(), AllocError>
-    ensures { OnOk result (AddsBelow texts.now (planned_of update.now) before.old before.new
+    ensures { OnOk result (AddsBelow table.now.texts.now (planned_of update.now) before.old before.new
         out.old.items out.new.items) }
 {
     if !is_written(update.verdict) {
         return Ok(());
     }
-    write_below(alloc, layout, *before, update, texts, out)?;
+    write_below(alloc, table, *before, update, out)?;
     *before = Some(update.origin);
     Ok(())
 }
@@ -82,20 +88,19 @@ fn add_below(
 // Appends an update as a line, behind the text of its spec if the previous update is by another.
 fn write_below(
     alloc: Global,
-    layout: &Layout,
+    table: &Table<'_>,
     before: Option<Origin>,
     update: &Update<'_>,
-    texts: &SpecTexts,
     out: &mut Vec<u8>,
 ) -> Result<(), AllocError>
-    ensures { OnOk result (WritesBelow texts.now before (planned_of update.now) out.old.items out.new.items) }
+    ensures { OnOk result (WritesBelow table.now.texts.now before (planned_of update.now) out.old.items out.new.items) }
 {
     if !has_origin(before, update.origin) {
-        let text = texts.text_of(update.origin);
-        write_heading(layout, text, update.origin, out)?;
+        let text = table.texts.text_of(update.origin);
+        write_heading(table.layout, text, update.origin, out)?;
     }
     out.extend_from_slice(b"  ")?;
-    write_short(alloc, layout, update, out)
+    write_short(alloc, table.layout, update, out)
 }
 
 // Whether the previous update is by the spec of this origin.

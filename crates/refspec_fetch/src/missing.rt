@@ -3,12 +3,15 @@
 ghost use Rattle.std.specs.Prelude.{◌≡◌, ◌∷◌, [], length, IfOk, OnOk};
 ghost use Rattle.refspec_io.specs.Shown.{Grows};
 ghost use Rattle.refspec_fetch.specs.Missing.{AddsMissing, WritesMissing, WritesMissingObject, some_more};
+ghost use Rattle.refspec_fetch.specs.Origins.{text_of};
+ghost use Rattle.refspec_fetch.specs.declared.origins.SpecTexts.{SpecTexts};
 
+use crate::answer::Answer;
 use crate::origins::{SpecTexts, note_of, origin_name};
 use bstr::ByteSlice;
 use gix_refspec::match_group::Item;
 use gix_refspec_plan::Origin;
-use refspec_io::call::Form;
+use refspec_io::call::{Form, Limit};
 use refspec_io::counts::{few, write_more};
 use refspec_io::json;
 use refspec_io::quote::write_in_message;
@@ -72,66 +75,78 @@ fn source_in(text: &[u8]) -> &[u8] {
     }
 }
 
-/// Reports the specs whose source the remote lacks, in order, each with names of the remote that have the same last
-/// component: all if `all`, else the first 20, and how many more there are.
+// A spec whose source the remote lacks.
+#[derive(Clone, Copy)]
+struct Missing<'a, 'i> {
+    origin: Origin,
+    text: &'a [u8],
+    // The names of the remote that have the same last component.
+    names: &'a [Named<'i>],
+}
+
+/// Reports the specs of an answer whose source the remote lacks, in order, each with names of the remote that have the
+/// same last component: those within a limit, and how many more there are.
 pub fn report_missing(
     alloc: Global,
-    missing: &[Origin],
-    items: &[Item<'_>],
+    answer: &Answer<'_, '_, '_>,
     texts: &SpecTexts,
-    all: bool,
+    limit: Limit,
     report: &mut Report,
 ) -> Result<(), AllocError>
     ensures form { OnOk result (report.new.form ≡ report.old.form) }
-    ensures reported { OnOk result (AddsMissing all report.old.form texts.now missing.now
+    ensures reported { OnOk result (AddsMissing limit report.old.form texts.now answer.now.plan.missing.items
         report.old.messages.items report.new.messages.items report.old.results.items report.new.results.items) }
 {
-    match missing {
-        [] => return Ok(()),
-        _ => {}
+    let missing = answer.plan.missing.as_slice();
+    if missing.is_empty() {
+        return Ok(());
     }
-    let names = Names::of(alloc, items)?;
+    let names = Names::of(alloc, answer.question.refs)?;
     for origin in missing {
-        report_one(alloc, *origin, texts, &names, all, report)?;
+        report_one(alloc, &missing_by(*origin, texts, &names), limit, report)?;
     }
     Ok(())
+}
+
+// The spec from an origin whose source the remote lacks.
+fn missing_by<'a, 'i>(origin: Origin, texts: &'a SpecTexts, names: &'a Names<'i>) -> Missing<'a, 'i>
+    ensures origin { result.origin ≡ origin }
+    ensures text { result.text.now ≡ text_of texts.now origin }
+{
+    let text = texts.text_of(origin);
+    let names = names.ending(last_component(source_in(text)));
+    Missing {
+        origin,
+        text,
+        names,
+    }
 }
 
 // Reports a spec whose source the remote lacks.
 fn report_one(
     alloc: Global,
-    origin: Origin,
-    texts: &SpecTexts,
-    names: &Names<'_>,
-    all: bool,
+    missing: &Missing<'_, '_>,
+    limit: Limit,
     report: &mut Report,
 ) -> Result<(), AllocError>
     ensures form { OnOk result (report.new.form ≡ report.old.form) }
-    ensures reported { OnOk result (AddsMissing all report.old.form texts.now (origin ∷ [])
+    ensures reported { (texts : SpecTexts) → missing.now.text.now ≡ text_of texts missing.now.origin
+        → OnOk result (AddsMissing limit report.old.form texts (missing.now.origin ∷ [])
         report.old.messages.items report.new.messages.items report.old.results.items report.new.results.items) }
 {
-    let text = texts.text_of(origin);
-    let source = source_in(text);
-    let similar = names.ending(last_component(source));
     match report.form {
-        Form::Json => write_object(alloc, origin, text, similar, all, &mut report.results),
-        Form::Lines | Form::Zeros => write_lines(origin, text, similar, all, &mut report.messages),
+        Form::Json => write_object(alloc, missing, limit, &mut report.results),
+        Form::Lines | Form::Zeros => write_lines(missing, limit, &mut report.messages),
     }
 }
 
-// Appends the lines on a missing source, with names of the remote: all if `all`, else the first 20, and how many more
-// there are.
-fn write_lines(
-    origin: Origin,
-    text: &[u8],
-    names: &[Named<'_>],
-    all: bool,
-    out: &mut Vec<u8>,
-) -> Result<(), AllocError>
-    ensures { OnOk result (WritesMissing text.now origin out.old.items out.new.items) }
+// Appends the lines on a missing source, with names of the remote: those within a limit, and how many more there are.
+fn write_lines(missing: &Missing<'_, '_>, limit: Limit, out: &mut Vec<u8>) -> Result<(), AllocError>
+    ensures { OnOk result (WritesMissing missing.now.text.now missing.now.origin out.old.items out.new.items) }
 {
-    write_first_line(origin, text, out)?;
-    let (listed, more) = names.split_at(few(all, names.len()));
+    write_first_line(missing.origin, missing.text, out)?;
+    let names = missing.names;
+    let (listed, more) = names.split_at(few(limit, names.len()));
     write_names(listed, out)?;
     write_more("    ", more.len(), out)
 }
@@ -163,24 +178,24 @@ fn write_names(names: &[Named<'_>], out: &mut Vec<u8>) -> Result<(), AllocError>
     Ok(())
 }
 
-// Appends the object of a missing source, as a line, with names of the remote: all if `all`, else the first 20, and how
-// many more there are.
+// Appends the object of a missing source, as a line, with names of the remote: those within a limit, and how many more
+// there are.
 fn write_object(
     alloc: Global,
-    origin: Origin,
-    text: &[u8],
-    names: &[Named<'_>],
-    all: bool,
+    missing: &Missing<'_, '_>,
+    limit: Limit,
     out: &mut Vec<u8>,
 ) -> Result<(), AllocError>
-    ensures { OnOk result (WritesMissingObject all text.now origin out.old.items out.new.items) }
+    ensures { OnOk result (WritesMissingObject limit missing.now.text.now missing.now.origin
+        out.old.items out.new.items) }
 {
-    let listed = few(all, names.len());
+    let names = missing.names;
+    let listed = few(limit, names.len());
     let shown = texts_of(alloc, &names[..listed])?;
-    let spec = json::text_of(alloc, text)?;
+    let spec = json::text_of(alloc, missing.text)?;
     let object = refspec_json::Missing {
         spec: spec.as_str(),
-        origin: origin_name(origin),
+        origin: origin_name(missing.origin),
         message: MISSING,
         names: shown.as_slice(),
         more: some_more(names.len() - listed),

@@ -1,21 +1,20 @@
 //! The report of the updates in a directory conflict: of two destinations one is a directory of the other.
 
-ghost use Rattle.std.specs.Prelude.{◌≡◌, ◌∷◌, ◌++◌, [], List, map, true, OnOk, ℕ};
+ghost use Rattle.std.specs.Prelude.{◌≡◌, ◌∷◌, ◌++◌, [], List, map, OnOk, ℕ};
 ghost use Rattle.refspec_io.specs.Json.{AddsObjects};
 ghost use Rattle.refspec_io.specs.Rows.{source_text};
 ghost use Rattle.refspec_io.specs.Shown.{Grows};
 ghost use Rattle.refspec_fetch.specs.LeftOut.{IsNestedLine, IsNestedOf};
 ghost use Rattle.gix_refspec_plan.specs.Views.Plan.{planned_of};
-ghost use Rattle.refspec_io.specs.declared.call.Form.TheVariants as form;
 ghost use Rattle.refspec_fetch.specs.Verdicts.{nested_of};
 
-use crate::left_out::write_update;
+use crate::left_out::{Unwritten, write_update};
 use crate::origins::{SpecTexts, origin_name};
 use crate::updates::{destination_of, destination_or};
 use gix_refspec_plan::directories::nested_names;
 use gix_refspec_plan::{Update, Verdict};
-use refspec_io::call::Form;
-use refspec_io::counts::{is_reported, write_more_than};
+use refspec_io::call::{Form, Limit};
+use refspec_io::counts::Tally;
 use refspec_io::fields::source_of;
 use refspec_io::json;
 use refspec_io::quote::write_in_message;
@@ -26,12 +25,19 @@ use std::collections::BTreeMap;
 const NESTED: &str =
     "One of the two names is a directory of the other, so Git writes one of them, and git fetch ends with status 1.";
 
-/// Reports the updates in a directory conflict: all in JSON or if `all`, else the first 20, and how many more there are.
+// The other destination of each update in a directory conflict, and the texts of specs.
+#[derive(Drop)]
+struct Nestings<'u, 'a> {
+    others: BTreeMap<&'u [u8], &'u [u8]>,
+    texts: &'a SpecTexts,
+}
+
+/// Reports the updates in a directory conflict: all in JSON, else those within a limit, and how many more there are.
 pub fn report_nested(
     alloc: Global,
     updates: &[Update<'_>],
     texts: &SpecTexts,
-    all: bool,
+    limit: Limit,
     report: &mut Report,
 ) -> Result<(), AllocError>
     ensures form { OnOk result (report.new.form ≡ report.old.form) }
@@ -39,23 +45,15 @@ pub fn report_nested(
     ensures reported { OnOk result (AddsObjects report.old.form (IsNestedOf texts.now)
         (nested_of (map planned_of updates.now)) report.old.results.items report.new.results.items) }
 {
-    let others = others_of(alloc, updates)?;
-    let mut count = 0;
+    let nestings = Nestings {
+        others: others_of(alloc, updates)?,
+        texts,
+    };
+    let mut tally = Tally::new(limit);
     for update in updates {
-        if let Verdict::DirectoryConflict = update.verdict {
-            let other = other_of(update, &others);
-            let is_reported = is_reported(report.form, all, count);
-            report_one_nested(alloc, update, other, texts, is_reported, report)?;
-            count += 1;
-        }
+        add_nested(alloc, update, &nestings, &mut tally, report)?;
     }
-    write_more_than(
-        report.form,
-        all,
-        "directory conflict: ",
-        count,
-        &mut report.messages,
-    )
+    tally.write_more(report.form, "directory conflict: ", &mut report.messages)
 }
 
 // The destinations of updates that would be written, each that is in a directory conflict with another one.
@@ -91,50 +89,64 @@ fn other_of<'u>(update: &Update<'_>, others: &BTreeMap<&'u [u8], &'u [u8]>) -> &
     }
 }
 
-// Reports an update in a directory conflict with another destination.
+// Counts an update, if it is in a directory conflict, and reports it, unless that is beyond the limit.
+fn add_nested(
+    alloc: Global,
+    update: &Update<'_>,
+    nestings: &Nestings<'_, '_>,
+    tally: &mut Tally,
+    report: &mut Report,
+) -> Result<(), AllocError>
+    ensures form { OnOk result (report.new.form ≡ report.old.form) }
+    ensures said { OnOk result (Grows report.old.messages.items report.new.messages.items) }
+    ensures reported { OnOk result (AddsObjects report.old.form (IsNestedOf nestings.now.texts.now)
+        (nested_of (planned_of update.now ∷ [])) report.old.results.items report.new.results.items) }
+{
+    let Verdict::DirectoryConflict = update.verdict else {
+        return Ok(());
+    };
+    if !tally.reports_next(report.form) {
+        return Ok(());
+    }
+    report_one_nested(alloc, update, nestings, report)
+}
+
+// Reports an update in a directory conflict.
 fn report_one_nested(
     alloc: Global,
     update: &Update<'_>,
-    other: &[u8],
-    texts: &SpecTexts,
-    is_reported: bool,
+    nestings: &Nestings<'_, '_>,
     report: &mut Report,
 ) -> Result<(), AllocError>
-    requires { report.now.form ≡ form.Json → is_reported ≡ true }
     ensures form { OnOk result (report.new.form ≡ report.old.form) }
     ensures said { OnOk result (Grows report.old.messages.items report.new.messages.items) }
-    ensures reported { OnOk result (AddsObjects report.old.form (IsNestedOf texts.now)
+    ensures reported { OnOk result (AddsObjects report.old.form (IsNestedOf nestings.now.texts.now)
         (planned_of update.now ∷ []) report.old.results.items report.new.results.items) }
 {
-    if !is_reported {
-        return Ok(());
-    }
     let mut buffer = Vec::new(alloc);
     let source = source_of(&update.source, &mut buffer)?;
-    let spec = texts.text_of(update.origin);
+    let spec = nestings.texts.text_of(update.origin);
+    let unwritten = Unwritten {
+        update,
+        source,
+        spec,
+    };
+    let other = other_of(update, &nestings.others);
     match report.form {
-        Form::Json => write_nested_object(alloc, update, source, spec, other, &mut report.results),
-        Form::Lines | Form::Zeros => write_nested(
-            update,
-            source,
-            spec,
-            other,
-            &mut report.messages,
-        ),
+        Form::Json => write_nested_object(alloc, &unwritten, other, &mut report.results),
+        Form::Lines | Form::Zeros => write_nested(&unwritten, other, &mut report.messages),
     }
 }
 
 // Appends the line on an update in a directory conflict.
 fn write_nested(
-    update: &Update<'_>,
-    source: &[u8],
-    spec: &[u8],
+    unwritten: &Unwritten<'_, '_>,
     other: &[u8],
     out: &mut Vec<u8>,
 ) -> Result<(), AllocError>
     ensures { OnOk result (Grows out.old.items out.new.items) }
 {
-    write_update("directory conflict: ", update, source, spec, out)?;
+    write_update("directory conflict: ", unwritten, out)?;
     write_in_message(out, other)?;
     out.extend_from_slice(b" is written too. ")?;
     out.extend_from_slice(NESTED.as_bytes())?;
@@ -144,20 +156,20 @@ fn write_nested(
 // Appends the object of an update in a directory conflict, as a line.
 fn write_nested_object(
     alloc: Global,
-    update: &Update<'_>,
-    source: &[u8],
-    spec: &[u8],
+    unwritten: &Unwritten<'_, '_>,
     other: &[u8],
     out: &mut Vec<u8>,
 ) -> Result<(), AllocError>
-    requires { source.now ≡ source_text (planned_of update.now).source }
-    ensures { OnOk result ((line : List ℕ) × IsNestedLine spec.now (planned_of update.now) line
+    requires { unwritten.now.source.now ≡ source_text (planned_of unwritten.now.update.now).source }
+    ensures { OnOk result ((line : List ℕ)
+        × IsNestedLine unwritten.now.spec.now (planned_of unwritten.now.update.now) line
         × (out.new.items ≡ out.old.items ++ line)) }
 {
-    let source = json::text_of(alloc, source)?;
+    let update = unwritten.update;
+    let source = json::text_of(alloc, unwritten.source)?;
     let name = destination_of(update);
     let destination = json::text_or_none(alloc, name)?;
-    let spec = json::text_of(alloc, spec)?;
+    let spec = json::text_of(alloc, unwritten.spec)?;
     let other = json::text_of(alloc, other)?;
     let destination = destination.as_deref();
     let object = refspec_json::DirectoryConflict {

@@ -17,7 +17,7 @@ use crate::question::asks_updates;
 use crate::stale::report_stale;
 use crate::summary::write_summary;
 use crate::updates::report_updates;
-use refspec_io::call::Form;
+use refspec_io::call::{Form, Limit};
 use refspec_io::report::Report;
 use std::alloc::{AllocError, Global};
 
@@ -26,8 +26,8 @@ use std::alloc::{AllocError, Global};
 pub struct Style<'a> {
     /// Each update is shown in one line with its spec, rather than below it.
     pub long: bool,
-    /// All that is missing, left out or in conflict is reported, rather than only the first 20 of a kind.
-    pub all: bool,
+    /// How much of each kind of what is missing, left out or in conflict is reported.
+    pub limit: Limit,
     /// Messages go to a terminal, and a line sums up the updates.
     pub is_watched: bool,
     /// The name of the refs here in messages.
@@ -65,17 +65,10 @@ fn report_first(
     ensures { OnOk result (AddsFirst style.now texts.now (answer_of answer.now)
         (report_of report.old) (report_of report.new)) }
 {
-    let (plan, refs) = (&answer.plan, answer.question.refs);
-    report_missing(
-        alloc,
-        plan.missing.as_slice(),
-        refs,
-        texts,
-        style.all,
-        report,
-    )?;
+    report_missing(alloc, answer, texts, style.limit, report)?;
     report_unwritten(alloc, answer, style, texts, report)?;
-    report_conflicts(alloc, plan.updates.as_slice(), texts, style.all, report)
+    let updates = answer.plan.updates.as_slice();
+    report_conflicts(alloc, updates, texts, style.limit, report)
 }
 
 // Reports the updates that are left out, overruled or in a directory conflict, if updates are asked for.
@@ -93,9 +86,9 @@ fn report_unwritten(
         return Ok(());
     }
     let updates = answer.plan.updates.as_slice();
-    report_left_out(alloc, updates, texts, style.all, report)?;
-    report_overruled(alloc, updates, texts, style.all, report)?;
-    report_nested(alloc, updates, texts, style.all, report)?;
+    report_left_out(alloc, updates, texts, style.limit, report)?;
+    report_overruled(alloc, updates, texts, style.limit, report)?;
+    report_nested(alloc, updates, texts, style.limit, report)?;
     Ok(())
 }
 
@@ -113,13 +106,7 @@ fn report_carried_out(
     if !asks_updates(answer.question.subject) {
         return report_stale(alloc, answer, style, texts, report);
     }
-    report_updates(
-        alloc,
-        answer.plan.updates.as_slice(),
-        texts,
-        style.long,
-        report,
-    )?;
+    report_updates(alloc, answer.plan.updates.as_slice(), texts, style, report)?;
     report_stale(alloc, answer, style, texts, report)?;
     sum_up(alloc, answer, style, report)
 }

@@ -7,8 +7,9 @@ ghost use Rattle.refspec_fetch.specs.Report.{AddsLongOrGroups, AddsUpdates};
 ghost use Rattle.refspec_fetch.specs.Updates.{AddsUpdateLines, WritesHeading, WritesUpdateLine, fields_with, object_with, update_fields, update_object};
 ghost use Rattle.refspec_fetch.specs.Verdicts.{is_written, written_of};
 
-use crate::groups::{write_grouped, write_rows};
+use crate::groups::{Table, write_grouped, write_rows};
 use crate::origins::{SpecTexts, note_of, origin_name};
+use crate::report::Style;
 use gix_refspec_plan::{Origin, Update, Verdict};
 use refspec_io::call::Form;
 use refspec_io::fields::{
@@ -19,21 +20,21 @@ use refspec_io::report::Report;
 use refspec_io::table::Layout;
 use std::alloc::{AllocError, Global};
 
-/// Reports the updates that are written, in order: in lines grouped below their specs, unless `long`.
+/// Reports the updates that are written, in order: in lines grouped below their specs, unless the style is long.
 pub fn report_updates(
     alloc: Global,
     updates: &[Update<'_>],
     texts: &SpecTexts,
-    long: bool,
+    style: &Style<'_>,
     report: &mut Report,
 ) -> Result<(), AllocError>
     ensures form { OnOk result (report.new.form ≡ report.old.form) }
     ensures no_message { OnOk result (report.new.messages ≡ report.old.messages) }
-    ensures reported { OnOk result (AddsUpdates long report.old.form texts.now
+    ensures reported { OnOk result (AddsUpdates style.now.long report.old.form texts.now
         (written_of (map planned_of updates.now)) report.old.results.items report.new.results.items) }
 {
     match report.form {
-        Form::Lines => write_lines(alloc, updates, texts, long, &mut report.results),
+        Form::Lines => write_lines(alloc, updates, texts, style, &mut report.results),
         Form::Zeros => write_records(updates, texts, &mut report.results),
         Form::Json => write_objects(alloc, updates, texts, &mut report.results),
     }
@@ -57,21 +58,25 @@ fn write_lines(
     alloc: Global,
     updates: &[Update<'_>],
     texts: &SpecTexts,
-    long: bool,
+    style: &Style<'_>,
     out: &mut Vec<u8>,
 ) -> Result<(), AllocError>
-    ensures { OnOk result (AddsLongOrGroups long texts.now (written_of (map planned_of updates.now))
+    ensures { OnOk result (AddsLongOrGroups style.now.long texts.now (written_of (map planned_of updates.now))
         out.old.items out.new.items) }
 {
     let layout = layout_of(alloc, updates, texts)?;
     out.reserve(layout.room(updates.len()))?;
-    if long {
+    if style.long {
         return write_table(alloc, &layout, updates, texts, out);
     }
     if texts.is_alone {
         return write_rows(alloc, &layout, updates, out);
     }
-    write_grouped(alloc, &layout, updates, texts, out)
+    let table = Table {
+        layout: &layout,
+        texts,
+    };
+    write_grouped(alloc, &table, updates, out)
 }
 
 // Measures the layout of a table of updates. Its last column is as wide as the longest text
@@ -276,12 +281,11 @@ fn write_object(
     let destination = json::text_or_none(alloc, name)?;
     let spec = json::text_of(alloc, text)?;
     let destination = destination.as_deref();
-    json::write_mapping(
-        alloc,
-        source.as_str(),
+    let object = refspec_json::Mapping {
+        source: source.as_str(),
         destination,
-        spec.as_str(),
-        Some(origin_name(update.origin)),
-        out,
-    )
+        spec: spec.as_str(),
+        origin: Some(origin_name(update.origin)),
+    };
+    object.write_line(alloc, out)
 }

@@ -1,11 +1,12 @@
 -- The lines and the object on a conflict, as in runs of `plan`: its destination, and each source with the text of its
 -- spec
 -- and where that comes from.
-use Rattle.std.proofs.Common.{◌≡◌, ℕ, true, false, List, [], ◌∷◌, ◌++◌, inl, inr, ap, arith, codes, get_or, length}
-use Rattle.std.proofs.Common.{length-append, refl, ◌∙◌}
+use Rattle.std.proofs.Common.{◌≡◌, ℕ, List, [], ◌∷◌, ◌++◌, inl, inr, ap, arith, codes, get_or, length, length-append}
+use Rattle.std.proofs.Common.{refl, ◌∙◌}
 use Rattle.std.specs.Str.{chars, is_utf8}
 use Rattle.refspec_json.specs.Objects.{conflict_object, line_of}
 use Rattle.refspec_io.specs.declared.call.Form.TheVariants as form
+use Rattle.refspec_io.specs.declared.call.Limit.TheVariants as limit
 use Rattle.refspec_fetch.specs.declared.origins.SpecTexts.{SpecTexts}
 use Rattle.refspec_fetch.specs.Conflicts.{AddsConflictLines, Contest, IsClaim, IsReportedConflict, WritesClaim}
 use Rattle.refspec_fetch.specs.Conflicts.{conflict_line}
@@ -100,14 +101,15 @@ reported texts = record {
 }
 
 -- a conflict is reported, and in JSON it is no message
-pub all_reported : (texts : SpecTexts) → AddsConflictLines false form.Lines texts (contest ∷ []) (codes "x\n")
+pub all_reported : (texts : SpecTexts) → AddsConflictLines limit.Twenty form.Lines texts (contest ∷ []) (codes "x\n")
     (codes "x\n" ++ (conflict_lines ++ []))
-    × AddsConflictLines true form.Zeros texts [] (codes "x\n") (codes "x\n") × AddsConflictLines false form.Json texts
+    × AddsConflictLines limit.All form.Zeros texts [] (codes "x\n") (codes "x\n")
+    × AddsConflictLines limit.Twenty form.Json texts
     (contest ∷ []) (codes "x\n") (codes "x\n")
 all_reported texts = ((conflict_lines, (conflict_lines, [], reported texts, refl, refl), refl), ([], refl, refl), refl)
 
 -- none is lost
-pub none_lost : (texts : SpecTexts) → ¬ (AddsConflictLines false form.Lines texts (contest ∷ []) [] [])
+pub none_lost : (texts : SpecTexts) → ¬ (AddsConflictLines limit.Twenty form.Lines texts (contest ∷ []) [] [])
 none_lost texts adds =
     let (lines, (one, rest, is, none, all), grown) = adds in
     omega (arith, ap length (grown ∙ ap (λ (l : List ℕ). l ++ []) (all ∙ ap (λ (l : List ℕ). l ++ rest) is.is)))

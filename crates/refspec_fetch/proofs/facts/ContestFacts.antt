@@ -1,6 +1,6 @@
 -- Which conflicts a plan has, and their report.
-use Rattle.std.proofs.Common.{◌≡◌, ◌≢◌, ◌<◌, ◌-◌, ℕ, true, List, [], ◌∷◌, ◌++◌, None, Some, inl, ap, arith}
-use Rattle.std.proofs.Common.{codes, get_or, length, refl, ◌∙◌, subst}
+use Rattle.std.proofs.Common.{◌≡◌, ◌≢◌, ◌<◌, ◌-◌, ℕ, List, [], ◌∷◌, ◌++◌, None, Some, inl, ap, arith, codes, get_or}
+use Rattle.std.proofs.Common.{length, refl, ◌∙◌, subst}
 use Rattle.std.specs.declared.cmp.Ordering.TheVariants.{Greater, Less}
 use Rattle.std.specs.List.{AllByRecursion, Contains}
 use Rattle.std.specs.List.Sorted.{IsStrictlySortedBy}
@@ -9,6 +9,7 @@ use Rattle.gix_refspec_plan.specs.declared.Verdict.TheVariants as verdict
 use Rattle.gix_refspec.specs.Matching.Mappings.{name}
 use Rattle.gix_refspec_plan.specs.Matching.Plan.{Planned}
 use Rattle.refspec_io.specs.declared.call.Form.TheVariants as form
+use Rattle.refspec_io.specs.declared.call.Limit.TheVariants as limit
 use Rattle.refspec_io.specs.Counts.{more_line}
 use Rattle.refspec_fetch.specs.declared.origins.SpecTexts.{SpecTexts}
 use Rattle.refspec_fetch.specs.Conflicts.{AddsConflictLines, AddsConflicts, AreContests, AreThoseTo, Contest}
@@ -156,11 +157,11 @@ only_a = record {
 }
 
 pub reported : (texts : SpecTexts)
-    → AddsConflicts true form.Lines texts (a_head ∷ []) (codes "x\n") (codes "x\n" ++ (conflict_lines ++ []))
+    → AddsConflicts limit.All form.Lines texts (a_head ∷ []) (codes "x\n") (codes "x\n" ++ (conflict_lines ++ []))
     (codes "r") (codes "r")
-    × AddsConflicts true form.Json texts (a_head ∷ []) (codes "x\n") (codes "x\n") (codes "r")
+    × AddsConflicts limit.All form.Json texts (a_head ∷ []) (codes "x\n") (codes "x\n") (codes "r")
     (codes "r" ++ (conflict_line texts at_a ++ []))
-    × AddsConflicts true form.Zeros texts [] (codes "x\n") (codes "x\n") (codes "r") (codes "r")
+    × AddsConflicts limit.All form.Zeros texts [] (codes "x\n") (codes "x\n") (codes "r") (codes "r")
 reported texts = (
   record {
     contests = at_a ∷ [];
@@ -212,14 +213,15 @@ reported texts = (
 
 -- neither is a conflict passed over, nor is anything said without one
 pub not_reported : (texts : SpecTexts) (old new : List ℕ)
-    → ¬ (AddsConflicts true form.Lines texts (a_head ∷ []) [] [] old new)
-    × ¬ (AddsConflicts true form.Lines texts [] [] (codes "x") old new)
+    → ¬ (AddsConflicts limit.All form.Lines texts (a_head ∷ []) [] [] old new)
+    × ¬ (AddsConflicts limit.All form.Lines texts [] [] (codes "x") old new)
 not_reported texts old new = (
   (λ adds. lost adds.contests adds.are adds.messages),
   λ adds. added adds.contests adds.are adds.messages,
 )
   where
-    lost : (cs : List Contest) → AreContests (a_head ∷ []) cs → ¬ (AddsConflictLines true form.Lines texts cs [] [])
+    lost : (cs : List Contest) → AreContests (a_head ∷ []) cs
+        → ¬ (AddsConflictLines limit.All form.Lines texts cs [] [])
     lost [] are lines = no_contests.1 are
     lost (c ∷ cs) are (lines, (one, rest, is, more, all), grown) =
         omega (
@@ -229,6 +231,6 @@ not_reported texts old new = (
               (all ∙ ap (λ (l : List ℕ). l ++ rest) is.is)),
         )
 
-    added : (cs : List Contest) → AreContests [] cs → ¬ (AddsConflictLines true form.Lines texts cs [] (codes "x"))
+    added : (cs : List Contest) → AreContests [] cs → ¬ (AddsConflictLines limit.All form.Lines texts cs [] (codes "x"))
     added [] are (lines, none, grown) = omega (arith, ap length (grown ∙ ap (λ (l : List ℕ). l ++ []) none))
     added (c ∷ cs) are lines = let each = are.each c (0, omega arith, refl) in each.0 each.1

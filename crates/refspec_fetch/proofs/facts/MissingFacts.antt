@@ -1,10 +1,11 @@
 -- The reports of missing sources: examples and counterexamples.
-use Rattle.std.proofs.Common.{◌≡◌, ◌≤◌, ◌++◌, ℕ, true, false, List, [], ◌∷◌, None, Some, inl, inr, ap, arith, codes}
-use Rattle.std.proofs.Common.{get_or, length, refl, replicate, ◌∙◌}
+use Rattle.std.proofs.Common.{◌≡◌, ◌≤◌, ◌++◌, ℕ, List, [], ◌∷◌, None, Some, inl, inr, ap, arith, codes, get_or, length}
+use Rattle.std.proofs.Common.{refl, replicate, ◌∙◌}
 use Rattle.std.specs.Str.{chars, is_utf8}
 use Rattle.gix_refspec_plan.specs.declared.Origin.TheVariants as origin
 use Rattle.refspec_json.specs.Objects.{line_of, missing_object}
 use Rattle.refspec_io.specs.declared.call.Form.TheVariants as form
+use Rattle.refspec_io.specs.declared.call.Limit.TheVariants as limit
 use Rattle.refspec_fetch.specs.declared.origins.SpecTexts.{SpecTexts}
 use Rattle.refspec_fetch.specs.Missing.{AddsMissing, IsMissingLines, IsMissingObject, sentence, some_more}
 
@@ -80,11 +81,11 @@ pub more : (some_more 0 ≡ None) × (some_more 3 ≡ Some 3)
 more = (refl, refl)
 
 -- twenty names are all listed; of 21 there is one more, or all are listed
-pub objects : IsMissingObject false (codes "a") (origin.Given 0)
+pub objects : IsMissingObject limit.Twenty (codes "a") (origin.Given 0)
     (line_of (missing_object (codes "a") (codes "given") sentence (replicate 20 (codes "b/a")) None))
-    × IsMissingObject false (codes "a") (origin.Given 0)
+    × IsMissingObject limit.Twenty (codes "a") (origin.Given 0)
     (line_of (missing_object (codes "a") (codes "given") sentence (replicate 20 (codes "b/a")) (Some 1)))
-    × IsMissingObject true (codes "a") (origin.Given 0)
+    × IsMissingObject limit.All (codes "a") (origin.Given 0)
     (line_of (missing_object (codes "a") (codes "given") sentence (replicate 21 (codes "b/a")) None))
 unfolding is_utf8 chars lib.Utf8.encode
 objects = (
@@ -94,21 +95,22 @@ objects = (
 )
 
 -- no more than 20 names are listed
-pub few_names : (text line : List ℕ) (is : IsMissingObject false text (origin.Given 0) line) → length is.names ≤ 20
+pub few_names : (text line : List ℕ) (is : IsMissingObject limit.Twenty text (origin.Given 0) line)
+    → length is.names ≤ 20
 few_names text line is = omega (arith, is.listed)
 
 -- the lines are messages, and without a missing source there are none
-pub reported : (texts : SpecTexts) → AddsMissing false form.Lines texts (origin.Default ∷ []) (codes "x\n")
+pub reported : (texts : SpecTexts) → AddsMissing limit.Twenty form.Lines texts (origin.Default ∷ []) (codes "x\n")
     (codes "x\n" ++ head_lines) [] []
-    × AddsMissing false form.Zeros texts [] (codes "x\n") (codes "x\n") [] []
+    × AddsMissing limit.Twenty form.Zeros texts [] (codes "x\n") (codes "x\n") [] []
 reported texts = (
   record { messages = (head_lines, (head_lines, [], head, refl, refl), refl); objects = refl },
   record { messages = ([], refl, refl); objects = refl },
 )
 
 -- no missing source is passed over
-pub not_passed : (texts : SpecTexts) → ¬ (AddsMissing false form.Lines texts (origin.Default ∷ []) [] [] [] [])
-    × ¬ (AddsMissing false form.Json texts (origin.Default ∷ []) (codes "x\n") [] [] [])
+pub not_passed : (texts : SpecTexts) → ¬ (AddsMissing limit.Twenty form.Lines texts (origin.Default ∷ []) [] [] [] [])
+    × ¬ (AddsMissing limit.Twenty form.Json texts (origin.Default ∷ []) (codes "x\n") [] [] [])
 not_passed texts = (
   (λ adds.
       let (lines, (one, rest, is, none, all), grown) = adds.messages in

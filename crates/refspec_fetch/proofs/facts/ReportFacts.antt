@@ -1,11 +1,12 @@
 -- What is reported of refs here, of a plan that is carried out, and of a whole answer.
-use Rattle.std.proofs.Common.{◌≡◌, ℕ, true, false, List, [], ◌∷◌, ◌++◌, inl, inr, ap, arith, codes, ◌∙◌, length}
+use Rattle.std.proofs.Common.{ℕ, false, List, [], ◌∷◌, ◌++◌, inl, inr, ap, arith, codes, ◌∙◌, length}
 use Rattle.std.proofs.Common.{length-append, refl, subst}
 use Rattle.std.proofs.lemmas.Bool.{false≢true}
 use Rattle.gix_refspec_plan.specs.declared.Origin.TheVariants as origin
 use Rattle.gix_refspec_plan.specs.Matching.Plan.{Planned}
 use Rattle.refspec_io.specs.declared.call.Form.{Form}
 use Rattle.refspec_io.specs.declared.call.Form.TheVariants as form
+use Rattle.refspec_io.specs.declared.call.Limit.TheVariants as limit
 use Rattle.refspec_fetch.specs.declared.origins.SpecTexts.{SpecTexts}
 use Rattle.refspec_fetch.specs.declared.question.Subject.TheVariants as subject
 use Rattle.refspec_fetch.specs.declared.report.Style.{Style}
@@ -58,7 +59,7 @@ fields = codes "HEAD" ++ (0 ∷ 0 ∷ codes "HEAD" ++ (0 ∷ codes "default" ++ 
 
 -- a style that shows all
 abbrev shows_all : Style → Style
-shows_all style = record style { all = true; long = false }
+shows_all style = record style { limit = limit.All; long = false }
 
 -- the updates that are written are results, if updates are asked for
 pub carried_out : (style : Style) (texts : SpecTexts)
@@ -178,7 +179,8 @@ pub not_stopped : (style : Style)
 not_stopped style = λ is. elim is.rest [
   | inl stopped ↦
       let same = is.first.unwritten in
-      let conflicts = subst (λ (f : Form). AddsConflicts true f is.texts [] is.first.second.messages is.between.messages
+      let conflicts =
+      subst (λ (f : Form). AddsConflicts limit.All f is.texts [] is.first.second.messages is.between.messages
       is.first.second.results is.between.results) (ap (λ (r : Report). r.form) same ∙ is.first.kept)
       is.first.conflicts in
       omega (

@@ -9,7 +9,8 @@ returns-then-not-is_written c =
     let p = planned_of c.args.update.now in
     let old = c.args.out.now.items in
     let before = c.args.before.now in
-    subst (λ (b : Bool). MatchBool b (WritesBelow c.args.texts.now before p old old × (before ≡ Some p.origin))
+    subst (λ (b : Bool). MatchBool b (WritesBelow c.args.table.now.texts.now before p old old
+    × (before ≡ Some p.origin))
     ((old ≡ old) × (before ≡ before))) (sym (sym c.is_written.ensures ∙ c.if-not-is_written.true)) (refl, refl)
 
 pub returns : goal.returns
@@ -18,6 +19,7 @@ returns c =
     let old = c.args.out.now.items in
     let new = c.write_below.new.out.items in
     let before = c.args.before.now in
-    subst (λ (b : Bool). MatchBool b (WritesBelow c.args.texts.now before p old new × (Some p.origin ≡ Some p.origin))
+    subst (λ (b : Bool). MatchBool b (WritesBelow c.args.table.now.texts.now before p old new
+    × (Some p.origin ≡ Some p.origin))
     ((new ≡ old) × (Some p.origin ≡ before))) (sym (sym c.is_written.ensures ∙ c.if-not-is_written.false))
     (c.in_ok-write_below.ensures, refl)

@@ -8,7 +8,7 @@ use Rattle.refspec_fetch.proofs.groups.write_below.Goals as goal
 
 pub returns : goal.returns
 returns c =
-    let texts = c.args.texts.now in
+    let texts = c.args.table.now.texts.now in
     let p = planned_of c.args.update.now in
     let before = c.args.before in
     let old = c.args.out.now.items in

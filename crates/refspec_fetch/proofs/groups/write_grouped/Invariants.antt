@@ -6,5 +6,6 @@ use Rattle.refspec_fetch.proofs.GroupLemmas.{GroupedSoFar}
 use Rattle.refspec_fetch.proofs.groups.write_grouped.Given as goal
 
 abbrev pub invariant-loop-update : goal.invariant-loop-update
-invariant-loop-update l = GroupedSoFar l.texts (written_of (map planned_of (take l.update-index l.updates))) l.before
+invariant-loop-update l = GroupedSoFar l.table.texts.now (written_of (map planned_of (take l.update-index l.updates)))
+    l.before
     l.fn.out.items l.out.items

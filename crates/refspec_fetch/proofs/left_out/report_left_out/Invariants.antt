@@ -1,5 +1,5 @@
 -- the updates so far were reported, if they are left out
-use Rattle.std.proofs.Common.{◌≡◌, ◌≤◌, map, take}
+use Rattle.std.proofs.Common.{◌≡◌, map, take}
 use Rattle.gix_refspec_plan.specs.Views.Plan.{planned_of}
 use Rattle.refspec_io.specs.Json.{AddsObjects}
 use Rattle.refspec_io.specs.Shown.{Grows}
@@ -13,5 +13,4 @@ invariant-loop-update l = record {
   said : Grows l.fn.report.messages.items l.report.messages.items;
   reported : AddsObjects l.fn.report.form (IsLeftOutOf l.texts)
       (left_out_of (map planned_of (take l.update-index l.updates))) l.fn.report.results.items l.report.results.items;
-  below : l.count ≤ l.update-index;
 }

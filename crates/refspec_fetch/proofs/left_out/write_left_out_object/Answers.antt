@@ -13,7 +13,8 @@ returns c =
     let destination = c.as_deref-destination.ensures.value
     ∙ (c.in_ok-destination.ensures ∙ ap (option_map json_text) c.destination_of-name.ensures) in
     on_ok c.write_line.result _ _ c.write_line.ensures
-    (left_out_line-of (unwritable c.args.side (planned_of c.args.update.now)) c.args.spec.now c.as_str.result.now
+    (left_out_line-of (unwritable c.args.side (planned_of c.args.unwritten.now.update.now))
+    c.args.unwritten.now.spec.now c.as_str.result.now
     c.as_str-2.result.now c.origin_name.result.now c.side_of.result.now c.why_left_out-message.result.now
     (option_map (λ t. t.now) c.as_deref-destination.result) c.args.out.now.items c.write_line.new.out.items source
     destination (c.as_str-2.ensures.value ∙ c.in_ok-spec.ensures) c.origin_name.ensures c.side_of.ensures)

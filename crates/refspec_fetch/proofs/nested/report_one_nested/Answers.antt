@@ -13,6 +13,6 @@ pub returns-in-Json-clause-reported : goal.returns-in-Json-clause-reported
 returns-in-Json-clause-reported c =
     let p = planned_of c.args.update.now in
     on_ok c.write_nested_object.result _ _ c.write_nested_object.ensures
-    (λ write. AddsObjects-one c.args.report.now.form (IsNestedOf c.args.texts.now) p write.0
+    (λ write. AddsObjects-one c.args.report.now.form (IsNestedOf c.args.nestings.now.texts.now) p write.0
     c.args.report.now.results.items c.write_nested_object.new.out.items c.in-Json.is
     (subst (λ (t : List ℕ). IsNestedLine t p write.0) c.text_of-spec.ensures write.1) write.2)

@@ -12,7 +12,8 @@ returns c =
     let destination = c.as_deref-destination.ensures.value
     ∙ (c.in_ok-destination.ensures ∙ ap (option_map json_text) c.destination_of-name.ensures) in
     on_ok c.write_line.result _ _ c.write_line.ensures
-    (nested_line-of (planned_of c.args.update.now) c.args.spec.now c.as_str.result.now c.as_str-2.result.now
+    (nested_line-of (planned_of c.args.unwritten.now.update.now) c.args.unwritten.now.spec.now c.as_str.result.now
+    c.as_str-2.result.now
     c.origin_name.result.now c.as_str-3.result.now
     (codes
     "One of the two names is a directory of the other, so Git writes one of them, and git fetch ends with status 1.")

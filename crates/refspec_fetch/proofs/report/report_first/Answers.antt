@@ -1,18 +1,16 @@
 -- The parts of the report follow each other.
 use Rattle.std.proofs.Common.{List, map, subst}
-use Rattle.gix_refspec_plan.specs.declared.Origin.{Origin}
 use Rattle.gix_refspec_plan.specs.declared.Update.{Update}
 use Rattle.gix_refspec_plan.specs.Views.Plan.{planned_of}
 use Rattle.refspec_io.proofs.ShownLemmas.{both_ok}
 use Rattle.refspec_fetch.specs.Conflicts.{AddsConflicts}
-use Rattle.refspec_fetch.specs.Missing.{AddsMissing}
 use Rattle.refspec_fetch.specs.Report.{report_of}
 use Rattle.refspec_fetch.specs.Verdicts.{in_conflict_of}
 use Rattle.refspec_fetch.proofs.report.report_first.Goals as goal
 
 pub returns : goal.returns
 returns c =
-    let all = c.args.style.now.all in
+    let limit = c.args.style.now.limit in
     let texts = c.args.texts.now in
     let old = report_of c.args.report.now in
     let first = report_of c.report_missing.new.report in
@@ -22,12 +20,10 @@ returns c =
     (λ same conflicts. record {
       first = first;
       second = second;
-      missing = subst (λ (l : List Origin). AddsMissing all old.form texts l old.messages first.messages old.results
-          first.results)
-          c.as_slice.ensures.value c.in_ok-report_missing.ensures.reported;
+      missing = c.in_ok-report_missing.ensures.reported;
       kept = c.in_ok-report_missing.ensures.form;
       unwritten = c.in_ok-report_unwritten.ensures;
-      conflicts = subst (λ (l : List Update). AddsConflicts all second.form texts (in_conflict_of (map planned_of l))
-          second.messages new.messages second.results new.results) c.as_slice-2.ensures.value conflicts;
+      conflicts = subst (λ (l : List Update). AddsConflicts limit second.form texts (in_conflict_of (map planned_of l))
+          second.messages new.messages second.results new.results) c.as_slice-updates.ensures.value conflicts;
       form = same;
     })
