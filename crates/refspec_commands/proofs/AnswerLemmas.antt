@@ -29,7 +29,6 @@ use Rattle.refspec_commands.specs.declared.tracking.answer.Looked.{Looked}
 use Rattle.refspec_commands.specs.declared.tracking.answer.Tracked.{Tracked}
 use Rattle.refspec_commands.specs.declared.tracking.question.Remote.{Remote}
 use Rattle.std.proofs.lemmas.List.Elements.{All-head, All-tail}
-use Rattle.std.proofs.lemmas.Slice.Zip.{all_zipped_more}
 use Rattle.refspec_io.proofs.ShownLemmas.{map-twice}
 use Rattle.refspec_commands.specs.declared.tracking.question.Order.TheVariants as order
 use Rattle.refspec_commands.specs.Answer.{AddsAnswer, AreLeftOut, IsAnswer, IsFound, IsFoundBy, IsLooked, IsStatus}
@@ -255,15 +254,6 @@ pub rows_in-more : (ts : List Tracked) (i : ℕ) (d : Tracked) → i < length ts
 rows_in-more ts i d below =
     ap (flat_map rows_in) (take_more ts i d below) ∙ (flat_map-append rows_in (take i ts) (get_or ts i d ∷ []) ∙ ap (λ
     l. flat_map rows_in (take i ts) ++ l) (append-nil (rows_in (get_or ts i d))))
-
--- one more element of a list that is mapped
-pub zip_mapped : {X A B : Type 0} (R : A → B → Type 0) (f : X
-    → A) (xs : List X) (i : ℕ) (d : X) (ys more : List B) (y : B) → i < length xs → AllZip R (map f (take i xs)) ys
-    → R (f (get_or xs i d)) y → more ≡ ys ++ y ∷ [] → AllZip R (map f (take (i + 1) xs)) more
-zip_mapped {X} {A} {B} R f xs i d ys more y below so_far is grown =
-    subst (λ (l : List A). AllZip R l more) (sym (map_more f xs i d below))
-    (subst (AllZip R (map f (take i xs) ++ f (get_or xs i d) ∷ [])) (sym grown) (all_zipped_more R (map f (take i xs))
-    ys (f (get_or xs i d)) y so_far is))
 
 -- a row of three parts
 abbrev pub shown_of : Option (List ℕ) → Mapped → List ℕ → Shown

@@ -1,4 +1,8 @@
 mod facts
+pub mod EachLemmas
+pub mod FateLemmas
+pub mod RemoteLemmas
+pub mod UpstreamLemmas
 pub mod CanonLemmas
 pub mod PrefixLemmas
 pub mod TrackLemmas

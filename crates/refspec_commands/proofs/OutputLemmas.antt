@@ -2,6 +2,7 @@
 use Rattle.std.proofs.Common.{◌≡◌, ◌≢◌, ◌⊎◌, ℕ, Bool, true, false, MatchBool, ◌||◌, ◌&&◌, List, [], ◌∷◌, Option, arith}
 use Rattle.std.proofs.Common.{inl, inr, length, ltb, map, refl, sym, ap, subst, ◌∙◌}
 use Rattle.std.specs.List.{AllZip}
+use Rattle.bstr.specs.BStr.{bstr_bytes}
 use Rattle.gix_refspec.specs.Specs.Reading.{Reading}
 use Rattle.refspec_json.specs.declared.specs.SpecKind.{SpecKind}
 use Rattle.refspec_io.specs.declared.call.Call.{Call}
@@ -23,19 +24,23 @@ use Rattle.refspec_io.specs.Texts.{AreTexts, Given, given_of, spec_input}
 use Rattle.refspec_io.proofs.CheckedLemmas.{AddsIfRead-of, DecidesRefused-of}
 use Rattle.refspec_io.proofs.MessageLemmas.{AreRefusals-of}
 use Rattle.refspec_fetch.specs.Fetch.{AddsFetch}
-use Rattle.refspec_fetch.specs.Report.{report_of}
+use Rattle.refspec_fetch.specs.Report.{Report as FetchReport, report_of}
 use Rattle.refspec_fetch.proofs.ReportLemmas.{AddsFetch-form}
 use Rattle.refspec_commands.specs.declared.checking.Answer.{Answer}
 use Rattle.refspec_commands.specs.declared.checking.Question.{Question}
 use Rattle.refspec_commands.specs.declared.warnings.Warning.{Warning}
 use Rattle.refspec_commands.specs.Canon.{AddsCanonical}
+use Rattle.refspec_commands.specs.Fates.{AddsFates}
 use Rattle.refspec_commands.specs.Output.{AddsFound, HasValues, IsEmpty, IsOutput, IsTask, ReportsChecked, Shows}
 use Rattle.refspec_commands.specs.Output.{notation_of}
 use Rattle.refspec_commands.specs.Warned.{AddsSaid, nothing_asked}
 use Rattle.refspec_commands.specs.Warnings.{AddsCheck, IsCheck, IsStatus, IsStrictStatus, ShowsCheck, WarnsIf}
 use Rattle.refspec_commands.proofs.KeyLemmas.{WarnsIf-nothing}
+use Rattle.refspec_commands.specs.Prefetches.{AddsPrefetches}
 use Rattle.refspec_commands.specs.Prefixes.{AddsPrefixes}
+use Rattle.refspec_commands.specs.Renames.{AddsRenamed}
 use Rattle.refspec_commands.specs.Track.{AddsTracked}
+use Rattle.refspec_commands.specs.Upstreams.{AddsUpstreams}
 use Rattle.refspec_commands.specs.WarnedViews.{said_of, seen_of}
 use Rattle.refspec_commands.proofs.CanonLemmas.{ShowsCanonical-of}
 use Rattle.refspec_commands.proofs.SeenLemmas.{IsSeen-of}
@@ -74,9 +79,10 @@ refusals_alone f texts all old new read empty reported =
 
 -- what a command other than `check` reports on its texts
 pub Shows-checked : (k : Command) (task : Task) (texts : List Text) (all : List Checked) (old new : Report)
-    (refused : Bool) → (k ≡ command.Check → ⊥) → AllZip IsChecked texts all → IsEmpty task.call.now.form old
+    (refused : Bool) → (k ≡ command.Check → ⊥) → (k ≡ command.Rename → ⊥) → AllZip IsChecked texts all
+    → IsEmpty task.call.now.form old
     → ReportsChecked k task all old new refused → Shows k task (map given_of texts) new refused
-Shows-checked command.Canon task texts all old new refused other read empty (shown, decides, reported) =
+Shows-checked command.Canon task texts all old new refused other no_rename read empty (shown, decides, reported) =
     let f = task.call.now.form in
     let results = new.results.items in
     let in_form = subst (λ (g : Form). AddsCanonical g all old.results.items results) empty.form shown in (
@@ -85,27 +91,41 @@ Shows-checked command.Canon task texts all old new refused other read empty (sho
       DecidesRefused-of refused texts all read decides,
       refusals_alone f texts all old new read empty reported,
     )
-Shows-checked command.Check task texts all old new refused other read empty reported = absurd (other refl)
-Shows-checked command.Explain task texts all old new refused other read empty (decides, reported) = (
+Shows-checked command.Check task texts all old new refused other no_rename read empty reported = absurd (other refl)
+Shows-checked command.Explain task texts all old new refused other no_rename read empty (decides, reported) = (
   DecidesRefused-of refused texts all read decides,
   refusals_alone task.call.now.form texts all old new read empty reported,
 )
-Shows-checked command.Plan task texts all old new refused other read empty reported =
+Shows-checked command.Plan task texts all old new refused other no_rename read empty reported =
     found_or_refused (λ f told. AddsFound command.Plan task f told new.messages.items refused) task.call.now.form texts
     all
     old new refused read empty reported
-Shows-checked command.Stale task texts all old new refused other read empty reported =
+Shows-checked command.Stale task texts all old new refused other no_rename read empty reported =
     found_or_refused (λ f told. AddsFound command.Stale task f told new.messages.items refused) task.call.now.form texts
     all
     old new refused read empty reported
-Shows-checked command.Track task texts all old new refused other read empty reported =
+Shows-checked command.Track task texts all old new refused other no_rename read empty reported =
     found_or_refused (λ f told. AddsFound command.Track task f told new.messages.items refused) task.call.now.form texts
     all
     old new refused read empty reported
-Shows-checked command.Prefixes task texts all old new refused other read empty reported =
+Shows-checked command.Prefixes task texts all old new refused other no_rename read empty reported =
     found_or_refused (λ f told. AddsFound command.Prefixes task f told new.messages.items refused) task.call.now.form
     texts
     all old new refused read empty reported
+Shows-checked command.Upstream task texts all old new refused other no_rename read empty reported =
+    found_or_refused (λ f told. AddsFound command.Upstream task f told new.messages.items refused) task.call.now.form
+    texts
+    all old new refused read empty reported
+Shows-checked command.Prefetch task texts all old new refused other no_rename read empty reported =
+    found_or_refused (λ f told. AddsFound command.Prefetch task f told new.messages.items refused) task.call.now.form
+    texts
+    all old new refused read empty reported
+Shows-checked command.Rename task texts all old new refused other no_rename read empty reported =
+    absurd (no_rename refl)
+Shows-checked command.Why task texts all old new refused other no_rename read empty reported =
+    found_or_refused (λ f told. AddsFound command.Why task f told new.messages.items refused) task.call.now.form texts
+    all
+    old new refused read empty reported
 
 -- what `check` reports
 pub Shows-check : (k : Command) (task : Task) (texts : List Given) (report : Report) (failed : Bool) → k ≡ command.Check
@@ -233,22 +253,89 @@ ReportsChecked-found command.Plan task all old new refused no_canon no_explain r
 ReportsChecked-found command.Stale task all old new refused no_canon no_explain reported = reported
 ReportsChecked-found command.Track task all old new refused no_canon no_explain reported = reported
 ReportsChecked-found command.Prefixes task all old new refused no_canon no_explain reported = reported
+ReportsChecked-found command.Upstream task all old new refused no_canon no_explain reported = reported
+ReportsChecked-found command.Prefetch task all old new refused no_canon no_explain reported = reported
+ReportsChecked-found command.Rename task all old new refused no_canon no_explain reported = tt
+ReportsChecked-found command.Why task all old new refused no_canon no_explain reported = reported
 
--- the results of a command other than `plan`, `stale` and `track`
+-- the results of a command other than `plan`, `stale`, `track`, `upstream`, `prefetch` and `why`
 pub AddsFound-prefixes : (k : Command) (task : Task) (f : Form) (before messages : List ℕ) (g : List Reading)
     (old new : List ℕ) → (k ≡ command.Plan → ⊥) → (k ≡ command.Stale → ⊥) → (k ≡ command.Track → ⊥)
+    → (k ≡ command.Upstream → ⊥) → (k ≡ command.Prefetch → ⊥) → (k ≡ command.Why → ⊥)
     → AddsPrefixes (notation_of task.call.now.patterns) f g old new → AddsFound k task f before messages false g old new
-AddsFound-prefixes command.Canon task f before messages g old new no_plan no_stale no_track reported = tt
-AddsFound-prefixes command.Check task f before messages g old new no_plan no_stale no_track reported = tt
-AddsFound-prefixes command.Explain task f before messages g old new no_plan no_stale no_track reported = tt
-AddsFound-prefixes command.Plan task f before messages g old new no_plan no_stale no_track reported =
-    absurd (no_plan refl)
-AddsFound-prefixes command.Stale task f before messages g old new no_plan no_stale no_track reported =
-    absurd (no_stale refl)
-AddsFound-prefixes command.Track task f before messages g old new no_plan no_stale no_track reported =
-    absurd (no_track refl)
-AddsFound-prefixes command.Prefixes task f before messages g old new no_plan no_stale no_track reported =
-    (reported, refl)
+AddsFound-prefixes command.Canon task f before messages g old new no_plan no_stale no_track no_upstream no_prefetch
+    no_why reported = tt
+AddsFound-prefixes command.Check task f before messages g old new no_plan no_stale no_track no_upstream no_prefetch
+    no_why reported = tt
+AddsFound-prefixes command.Explain task f before messages g old new no_plan no_stale no_track no_upstream no_prefetch
+    no_why reported = tt
+AddsFound-prefixes command.Plan task f before messages g old new no_plan no_stale no_track no_upstream no_prefetch
+    no_why reported = absurd (no_plan refl)
+AddsFound-prefixes command.Stale task f before messages g old new no_plan no_stale no_track no_upstream no_prefetch
+    no_why reported = absurd (no_stale refl)
+AddsFound-prefixes command.Track task f before messages g old new no_plan no_stale no_track no_upstream no_prefetch
+    no_why reported = absurd (no_track refl)
+AddsFound-prefixes command.Prefixes task f before messages g old new no_plan no_stale no_track no_upstream no_prefetch
+    no_why reported = (reported, refl)
+AddsFound-prefixes command.Upstream task f before messages g old new no_plan no_stale no_track no_upstream no_prefetch
+    no_why reported = absurd (no_upstream refl)
+AddsFound-prefixes command.Prefetch task f before messages g old new no_plan no_stale no_track no_upstream no_prefetch
+    no_why reported = absurd (no_prefetch refl)
+AddsFound-prefixes command.Rename task f before messages g old new no_plan no_stale no_track no_upstream no_prefetch
+    no_why reported = tt
+AddsFound-prefixes command.Why task f before messages g old new no_plan no_stale no_track no_upstream no_prefetch
+    no_why reported = absurd (no_why refl)
+
+-- the results of `upstream`
+pub AddsFound-upstream : (k : Command) (task : Task) (f : Form) (before messages : List ℕ) (refused : Bool)
+    (g : List Reading) (old new : List ℕ) → k ≡ command.Upstream
+    → AddsUpstreams f (map bstr_bytes task.call.now.merges.items) refused g old new
+    → AddsFound k task f before messages refused g old new
+AddsFound-upstream k task f before messages refused g old new is reported =
+    subst (λ (x : Command). AddsFound x task f before messages refused g old new) (sym is) reported
+
+-- the results of `prefetch`
+pub AddsFound-prefetch : (k : Command) (task : Task) (f : Form) (before messages : List ℕ) (refused : Bool)
+    (g : List Reading) (old new : List ℕ) → k ≡ command.Prefetch → (refused ≡ false) × AddsPrefetches f g old new
+    → AddsFound k task f before messages refused g old new
+AddsFound-prefetch k task f before messages refused g old new is reported =
+    subst (λ (x : Command). AddsFound x task f before messages refused g old new) (sym is) reported
+
+-- the results of `why`; it keeps the form
+AddsFates-form : (task : Task) (g : List Reading) (refused : Bool) (old new : FetchReport)
+    → AddsFates task g refused old
+    new → AddsFates task g refused old (record { form = old.form; results = new.results; messages = new.messages })
+AddsFates-form task g refused old new (inl (is, bad)) = inl (
+  is,
+  record {
+    refs = bad.refs;
+    bad = bad.bad;
+    listed = bad.listed;
+    some = bad.some;
+    malformed = bad.malformed;
+    form = refl;
+  },
+)
+AddsFates-form task g refused old new (inr explained) = inr explained
+
+pub AddsFound-why : (k : Command) (task : Task) (old new : Report) (refused : Bool) (g : List Reading)
+    → k ≡ command.Why → AddsFates task g refused (report_of old) (report_of new)
+    → AddsFound k task old.form old.messages.items new.messages.items refused g old.results.items new.results.items
+AddsFound-why k task old new refused g is reported =
+    subst (λ (x : Command). AddsFound x task old.form old.messages.items new.messages.items refused g old.results.items
+    new.results.items) (sym is) (AddsFates-form task g refused (report_of old) (report_of new) reported)
+
+-- what `rename` reports
+pub Shows-rename : (k : Command) (task : Task) (texts : List Given) (old new : Report) (left : Bool)
+    → k ≡ command.Rename → IsEmpty task.call.now.form old
+    → AddsRenamed task.call.now.remote.now task.call.now.new_remote.now old.form texts left old.results.items
+    new.results.items → Shows k task texts new left
+Shows-rename k task texts old new left is empty reported =
+    let in_form = subst (λ (f : Form). AddsRenamed task.call.now.remote.now task.call.now.new_remote.now f texts left
+    old.results.items new.results.items) empty.form reported in
+    subst (λ (x : Command). Shows x task texts new left) (sym is)
+    (subst (λ (l : List ℕ). AddsRenamed task.call.now.remote.now task.call.now.new_remote.now task.call.now.form texts
+    left l new.results.items) empty.results in_form)
 
 -- the results of `track`
 pub AddsFound-track : (k : Command) (task : Task) (f : Form) (before messages : List ℕ) (refused : Bool)

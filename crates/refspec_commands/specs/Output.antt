@@ -2,6 +2,7 @@
 -- and `explain` are left open, and so is what `check` warns of.
 use Rattle.std.specs.Prelude.{◌≡◌, ◌⊎◌, ℕ, Bool, true, false, List, [], Option, map, MatchBool, ⊤}
 use Rattle.std.specs.Io.KnownBytes.{Appends}
+use Rattle.bstr.specs.BStr.{bstr_bytes}
 use Rattle.gix_refspec.specs.Specs.Reading.{Reading}
 use Rattle.refspec_io.specs.declared.call.Call.{Call}
 use Rattle.refspec_io.specs.declared.call.Command.{Command}
@@ -24,8 +25,12 @@ use Rattle.refspec_fetch.specs.Fetch.{AddsFetch}
 use Rattle.refspec_commands.specs.Canon.{AddsCanonical, ShowsCanonical}
 use Rattle.refspec_commands.specs.declared.prefixes.report.Notation.{Notation}
 use Rattle.refspec_commands.specs.declared.prefixes.report.Notation.TheVariants as notation
+use Rattle.refspec_commands.specs.Fates.{AddsFates}
+use Rattle.refspec_commands.specs.Prefetches.{AddsPrefetches}
 use Rattle.refspec_commands.specs.Prefixes.{AddsPrefixes}
+use Rattle.refspec_commands.specs.Renames.{AddsRenamed}
 use Rattle.refspec_commands.specs.Track.{AddsTracked}
+use Rattle.refspec_commands.specs.Upstreams.{AddsUpstreams}
 use Rattle.refspec_commands.specs.Warnings.{ShowsCheck}
 
 -- how a call asks for prefixes to be written
@@ -46,6 +51,13 @@ AddsFound command.Track task form before after refused g old new =
     AddsTracked form (map (λ w. w.now) task.call.now.refs.items) refused g old new
 AddsFound command.Prefixes task form before after refused g old new =
     AddsPrefixes (notation_of task.call.now.patterns) form g old new × (refused ≡ false)
+AddsFound command.Upstream task form before after refused g old new =
+    AddsUpstreams form (map bstr_bytes task.call.now.merges.items) refused g old new
+AddsFound command.Prefetch task form before after refused g old new =
+    (refused ≡ false) × AddsPrefetches form g old new
+AddsFound command.Why task form before after refused g old new =
+    AddsFates task g refused (record { form = form; results = old; messages = before })
+    (record { form = form; results = new; messages = after })
 AddsFound _ task form before after refused g old new = ⊤
 
 -- the report of a call on its texts and what it reads; if a text is refused, the messages are the refusals, and of
@@ -58,6 +70,9 @@ Shows command.Canon task texts report refused =
 Shows command.Check task texts report refused = ShowsCheck task.call.now texts report refused
 Shows command.Explain task texts report refused =
     DecidesRefused refused (map said texts) × AreRefusals task.call.now.form texts report.messages.items
+Shows command.Rename task texts report refused =
+    AddsRenamed task.call.now.remote.now task.call.now.new_remote.now task.call.now.form texts refused []
+    report.results.items
 Shows found task texts report refused =
     AddsIfRead (AddsFound found task task.call.now.form [] report.messages.items refused)
     (AreRefusals task.call.now.form texts report.messages.items) task.call.now.form refused texts []
@@ -137,6 +152,7 @@ ReportsChecked command.Canon task all old new refused =
     AddsCanonical old.form all old.results.items new.results.items × MatchBool refused (HasBad all) (AreGood all)
     × ReportsRefusals old.form all old.messages.items new.messages.items
 ReportsChecked command.Check task all old new refused = ⊤
+ReportsChecked command.Rename task all old new refused = ⊤
 ReportsChecked command.Explain task all old new refused =
     MatchBool refused (HasBad all) (AreGood all) × ReportsRefusals old.form all old.messages.items new.messages.items
 ReportsChecked found task all old new refused =

@@ -3,10 +3,14 @@
 #![tactic(auto)]
 
 pub mod checking;
+pub mod fates;
 mod mappings;
+mod prefetches;
 pub mod prefixes;
+mod renames;
 pub mod run;
 pub mod specs;
 mod track;
 pub mod tracking;
+pub mod upstreams;
 pub mod warnings;

@@ -178,15 +178,14 @@ fn write_mapping_object(
     let source = json::text_of(alloc, source_of(&mapping.lhs, &mut buffer)?)?;
     let destination = json::text_or_none(alloc, destination_of(&mapping.rhs))?;
     let spec = json::text_of(alloc, text)?;
-    let destination = destination.as_deref();
-    json::write_mapping(
-        alloc,
-        source.as_str(),
-        destination,
-        spec.as_str(),
-        None,
-        out,
-    )
+    let origin = None;
+    let object = refspec_json::Mapping {
+        source: source.as_str(),
+        destination: destination.as_deref(),
+        spec: spec.as_str(),
+        origin,
+    };
+    object.write_line(alloc, out)
 }
 
 // Appends the object of a mapping of a remote, as a line.

@@ -11,13 +11,17 @@ ghost use Rattle.refspec_commands.specs.Run.{Leaves, ReadsWhole};
 ghost use Rattle.refspec_commands.specs.Warnings.{ShowsCheck};
 
 use crate::checking::{self, Question};
+use crate::fates::report_fates;
+use crate::prefetches::report_prefetches;
 use crate::prefixes::answer::answer_to;
 use crate::prefixes::report::{Notation, report_answer};
+use crate::renames::report_renames;
 use crate::specs::report_texts;
 use crate::track::report_tracking;
+use crate::upstreams::report_upstreams;
 use gix_refspec::RefSpecRef;
 use refspec_fetch::fetch::report_fetch;
-use refspec_io::call::{Call, Command, Files, Task};
+use refspec_io::call::{Call, Command, Job, Task};
 use refspec_io::checked::{Checked, all_good, check_all, has_bad};
 use refspec_io::fault::Fault;
 use refspec_io::input::read_input;
@@ -35,33 +39,32 @@ use std::io::{Read, Write};
 /// missing, conflicting, left out, not found, or warned of in a strict call, else 0.
 pub fn run<R: Read, W: Write, E: Write>(
     alloc: Global,
-    call: &Call<'_>,
-    files: &Files<'_>,
+    job: &Job<'_>,
     reader: &mut R,
     output: &mut W,
     errors: &mut E,
 ) -> Result<u8, Fault>
     ensures whole { IfOk result (λ _. ReadsWhole
-        call.now.reads_input (R.remaining reader.old) (R.remaining reader.new)) }
+        job.now.call.now.reads_input (R.remaining reader.old) (R.remaining reader.new)) }
 
-    ensures answers { IfOk result (Answers call.now files.now
+    ensures answers { IfOk result (Answers job.now.call.now job.now.files.now
         (R.remaining reader.old) (R.remaining reader.new)
         (W.contents output.old) (W.contents output.new)
         (E.contents errors.old) (E.contents errors.new)) }
 
     // If an input is refused as settings, it isn't in their format.
-    ensures format { IfErr result (RefusesInput call.now files.now
+    ensures format { IfErr result (RefusesInput job.now.call.now job.now.files.now
         (R.remaining reader.old) (R.remaining reader.new)) }
 
     // Before a fault nothing was written, unless a writer failed.
     ensures unwritten { IfErr result (Leaves (W.contents output.old) (W.contents output.new)) }
     ensures no_message { IfErr result (Leaves (E.contents errors.old) (E.contents errors.new)) }
 {
-    let input = input_of(alloc, call, reader)?;
-    let (report, refused) = report_of(alloc, call, files, input.as_slice())?;
-    write_all(output, report.results.as_slice())?;
-    write_all(errors, report.messages.as_slice())?;
-    Ok(status_of(refused))
+    let input = input_of(alloc, job.call, reader)?;
+    let reported = report_of(alloc, job, input.as_slice())?;
+    write_all(output, reported.report.results.as_slice())?;
+    write_all(errors, reported.report.messages.as_slice())?;
+    Ok(reported.status())
 }
 
 // Everything that the reader has left, if the call reads the input; else nothing.
@@ -78,23 +81,40 @@ fn input_of<R: Read>(alloc: Global, call: &Call<'_>, reader: &mut R) -> Result<V
     Ok(Vec::new(alloc))
 }
 
-// The report of a call, and whether something is refused, missing, conflicting, left out or not found.
-fn report_of(
-    alloc: Global,
-    call: &Call<'_>,
-    files: &Files<'_>,
-    input: &[u8],
-) -> Result<(Report, bool), Fault>
-    ensures ok { IfOk result (λ made. IsOutput call.now files.now input.now made.0 made.1) }
-    ensures err { IfErr result (RefusesFormat (HasNoSettings call.now.ends files.now.specs.now
-        (specs_of call.now.command files.now.configured.now input.now))) }
+// The report of a call.
+#[derive(Drop)]
+struct Reported {
+    report: Report,
+    // Something is refused, missing, conflicting, left out, not found, or warned of in a strict call.
+    refused: bool,
+}
+
+impl Reported {
+    // The exit status.
+    fn status(&self) -> u8
+        ensures { result ≡ exit_status self.now.refused }
+    {
+        if self.refused { 1 } else { 0 }
+    }
+}
+
+// The report of a call.
+fn report_of(alloc: Global, job: &Job<'_>, input: &[u8]) -> Result<Reported, Fault>
+    ensures ok { IfOk result (λ made. IsOutput job.now.call.now job.now.files.now input.now made.report made.refused) }
+    ensures err { IfErr result (RefusesFormat (HasNoSettings job.now.call.now.ends job.now.files.now.specs.now
+        (specs_of job.now.call.now.command job.now.files.now.configured.now input.now))) }
 {
+    let call = job.call;
+    let files = job.files;
     let mut report = Report::new(alloc, call.form);
     let specs = spec_input(call.command, files.configured, input);
     let settings = settings_in(alloc, call.ends, files.specs, specs)?;
     if has_lacking(settings.as_slice()) {
         refuse_lacking(alloc, settings.as_slice(), &mut report)?;
-        return Ok((report, true));
+        return Ok(Reported {
+            report,
+            refused: true,
+        });
     }
     let texts = texts_of(alloc, call, files, input, settings.as_slice())?;
     let task = Task {
@@ -104,7 +124,7 @@ fn report_of(
         given: texts.given,
     };
     let refused = report_results(alloc, &task, texts.all.as_slice(), &mut report)?;
-    Ok((report, refused))
+    Ok(Reported { report, refused })
 }
 
 // Reports what a call asks for of its texts.
@@ -119,6 +139,7 @@ fn report_results(
 {
     match task.call.command {
         Command::Check => report_check(alloc, task.call, texts, report),
+        Command::Rename => report_renames(alloc, task.call, texts, report),
         _ => {
             let all = check_all(alloc, texts)?;
             report_checked(alloc, task, all.as_slice(), report)
@@ -184,7 +205,7 @@ fn report_checked(
     }
 }
 
-// Reports the results of `plan`, `stale`, `track` or `prefixes` for specs.
+// Reports the results of a command other than `check`, `explain`, `canon` and `rename` for specs.
 fn report_found(
     alloc: Global,
     task: &Task<'_>,
@@ -199,6 +220,11 @@ fn report_found(
     match call.command {
         Command::Plan | Command::Stale => { report_fetch(alloc, task, specs.as_slice(), report) }
         Command::Track => report_tracking(alloc, call, specs, report),
+        Command::Upstream => {
+            report_upstreams(alloc, call.merges.as_slice(), specs.as_slice(), report)
+        }
+        Command::Prefetch => report_prefetches(alloc, specs.as_slice(), report),
+        Command::Why => report_fates(alloc, task, specs.as_slice(), report),
         _ => {
             let answer = answer_to(alloc, specs.as_slice())?;
             report_answer(alloc, notation_of(call), &answer, report)?;
@@ -216,12 +242,6 @@ fn notation_of(call: &Call<'_>) -> Notation
     } else {
         Notation::Argument
     }
-}
-
-fn status_of(refused: bool) -> u8
-    ensures { result ≡ exit_status refused }
-{
-    if refused { 1 } else { 0 }
 }
 
 // Writes all bytes, and flushes the writer.

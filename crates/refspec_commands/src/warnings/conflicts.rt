@@ -23,7 +23,7 @@ use gix_refspec::{RefSpecRef, parse};
 use gix_refspec_lint::{PossibleConflict, idle_specs, possible_conflicts};
 use gix_refspec_match::exclusions::Exclusions;
 use gix_refspec_text::side::{joined, split_at_first_star};
-use refspec_io::call::Form;
+use refspec_io::call::{Form, Limit};
 use refspec_io::counts::reported_count;
 use refspec_io::fields::source_of;
 use refspec_io::texts::{Text, write_number};
@@ -45,7 +45,7 @@ pub(super) fn conflicts_in<'a>(
     let fetch = beside.configured(group);
     let conflicts = or_nothing(alloc, possible_conflicts(alloc, &fetch, words.as_slice()))?;
     let texts = beside.texts_of(alloc, group)?;
-    let count = reported_count(form, false, conflicts.len());
+    let count = reported_count(form, Limit::Twenty, conflicts.len());
     let (shown, more) = conflicts.as_slice().split_at(count);
     let mut warnings = warnings_on(alloc, group, texts.as_slice(), shown)?;
     add_more(

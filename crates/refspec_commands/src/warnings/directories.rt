@@ -20,7 +20,7 @@ use gix_refspec::RefSpecRef;
 use gix_refspec::match_group::{Source, SourceRef};
 use gix_refspec_lint::{PossibleDirectoryConflict, possible_directory_conflicts};
 use gix_refspec_text::side::split_at_first_star;
-use refspec_io::call::Form;
+use refspec_io::call::{Form, Limit};
 use refspec_io::counts::reported_count;
 use refspec_io::fields::source_of;
 use refspec_io::texts::Text;
@@ -45,7 +45,7 @@ pub(super) fn directory_conflicts_in<'a>(
         possible_directory_conflicts(alloc, &fetch, words.as_slice()),
     )?;
     let texts = beside.texts_of(alloc, group)?;
-    let count = reported_count(form, false, conflicts.len());
+    let count = reported_count(form, Limit::Twenty, conflicts.len());
     let (shown, more) = conflicts.as_slice().split_at(count);
     let mut warnings = warnings_on(alloc, group, texts.as_slice(), shown)?;
     add_more(

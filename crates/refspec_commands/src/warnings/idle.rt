@@ -10,7 +10,7 @@ ghost use Rattle.refspec_commands.specs.Warned.{AreExclusionsSaid, AreIdleSaid, 
 ghost use Rattle.refspec_commands.specs.WarnedViews.{KeepsTopic, SpecsMatchTexts, asked_of, said_of};
 
 use super::beside::Beside;
-use super::effects::{Effects, Weight, effects_of, effects_of_exclusion};
+use super::effects::{Weight, effects_of, effects_of_exclusion};
 use super::group::Group;
 use super::{Topic, Warning, or_nothing, say};
 use gix_refspec::RefSpecRef;
@@ -68,7 +68,9 @@ fn warning_on<'a>(
     let spec = group.specs[idle.spec_index];
     let mut warning = named_warning(alloc, group.texts.as_slice(), idle)?;
     let effects = effects_of(alloc, group, beside, &spec, idle)?;
-    explain(alloc, group, &spec, idle.reason, &effects, &mut warning)?;
+    explain(alloc, group, &spec, idle.reason, &mut warning)?;
+    let advice = advice_on(idle.reason, effects.weight());
+    warning.advice.extend_from_slice(advice.as_bytes())?;
     effects.write(alloc, &text, &spec, &mut warning.message)?;
     Ok(warning)
 }
@@ -95,13 +97,12 @@ fn named_warning<'a>(
     }
 }
 
-// Says why a spec adds nothing, and what to do.
+// Says why a spec adds nothing; of an invalid one also what to do.
 fn explain(
     alloc: Global,
     group: &Group<'_>,
     spec: &RefSpecRef<'_>,
     reason: Reason,
-    effects: &Effects,
     warning: &mut Warning<'_>,
 ) -> Result<(), AllocError>
     ensures { OnOk result (KeepsTopic warning.old warning.new) }
@@ -120,17 +121,24 @@ fn explain(
             b" Its `+` does nothing, as the first spec that maps a ref decides.",
         )?;
     }
-    let advice: &[u8] = match (reason, effects.weight()) {
-        (Reason::Excluded(_), Weight::None) => b"Remove it, or exclude less.",
+    Ok(())
+}
+
+// What to do about a spec that adds nothing, by the weight of what it does all the same. Nothing for an invalid one.
+fn advice_on(reason: Reason, weight: Weight) -> &'static str {
+    match (reason, weight) {
+        (Reason::Invalid, _) => "",
+        (Reason::Excluded(_), Weight::None) => "Remove it, or exclude less.",
         (Reason::Excluded(_), Weight::Some) => {
-            b"Exclude less, or remove it if you want none of that."
+            "Exclude less, or remove it if you want none of that."
         }
-        (Reason::Excluded(_), Weight::OnTags) => b"Exclude less.",
-        (_, Weight::None) => b"Remove it.",
-        (_, Weight::Some) => b"Remove it only if you want none of that.",
-        (_, Weight::OnTags) => b"Leave it if you prune.",
-    };
-    warning.advice.extend_from_slice(advice)
+        (Reason::Excluded(_), Weight::OnTags) => "Exclude less.",
+        (Reason::Duplicate(_) | Reason::Duplicates, Weight::None) => "Remove it.",
+        (Reason::Duplicate(_) | Reason::Duplicates, Weight::Some) => {
+            "Remove it only if you want none of that."
+        }
+        (Reason::Duplicate(_) | Reason::Duplicates, Weight::OnTags) => "Leave it if you prune.",
+    }
 }
 
 // Whether a spec is forced, and the earlier one that maps the same isn't.

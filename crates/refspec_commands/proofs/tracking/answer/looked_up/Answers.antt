@@ -4,7 +4,7 @@ use Rattle.std.specs.List.{AllZip}
 use Rattle.gix_refspec.specs.Views.Group.{ref_of}
 use Rattle.refspec_commands.specs.Answer.{IsFound, IsLooked}
 use Rattle.refspec_io.proofs.CheckedLemmas.{zip_mapped_all}
-use Rattle.refspec_commands.proofs.AnswerLemmas.{zip_mapped}
+use Rattle.refspec_commands.proofs.EachLemmas.{zip_mapped}
 use Rattle.refspec_commands.proofs.tracking.answer.looked_up.Goals as goal
 
 pub loop-item-init : goal.loop-item-init

@@ -1,5 +1,5 @@
 -- In JSON all conflicts are shown.
-use Rattle.std.proofs.Common.{◌≡◌, ◌∙◌, ℕ, false, List, arith, ap, length, map, subst, sym, take, take_all}
+use Rattle.std.proofs.Common.{◌≡◌, ◌∙◌, ℕ, List, arith, ap, length, map, subst, sym, take, take_all}
 use Rattle.std.proofs.lemmas.List.{length-map}
 use Rattle.std.specs.List.{All, AllZip}
 use Rattle.gix_refspec_text.specs.Views.Spec.{reading_of}
@@ -8,6 +8,7 @@ use Rattle.gix_refspec_lint.specs.Matching.Lint.{AreExamples}
 use Rattle.gix_refspec_lint.specs.Views.Lint.{configuration_of, example_of}
 use Rattle.refspec_io.specs.Counts.{reported_count}
 use Rattle.refspec_io.specs.declared.call.Form.{Form}
+use Rattle.refspec_io.specs.declared.call.Limit.TheVariants as limit
 use Rattle.refspec_io.specs.declared.texts.Text.{Text}
 use Rattle.refspec_io.specs.Texts.{given_of}
 use Rattle.refspec_commands.specs.declared.warnings.Warning.{Warning}
@@ -44,7 +45,7 @@ returns c json =
     let given = c.args.group.now.texts.items in
     let found = c.in_ok-conflicts.conflicts.items in
     let count : c.reported_count-count.result ≡ length found =
-    c.reported_count-count.ensures.reported ∙ (ap (λ (f : Form). reported_count f false c.len.result) json ∙
+    c.reported_count-count.ensures.reported ∙ (ap (λ (f : Form). reported_count f limit.Twenty c.len.result) json ∙
     (c.len.ensures ∙ (sym c.as_slice-3.ensures.len ∙ ap length c.as_slice-3.ensures.value))) in
     let shown : c.split_at.result.0.now ≡ found =
     c.split_at.ensures.front ∙ (ap (take c.reported_count-count.result) c.as_slice-3.ensures.value

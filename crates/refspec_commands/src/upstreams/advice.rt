@@ -1,0 +1,144 @@
+//! What would give a branch an upstream.
+
+use crate::upstreams::answer::text_at;
+use crate::upstreams::question::Merged;
+use bstr::{BStr, BString};
+use gix_refspec::parsing::{Error, Operation};
+use gix_refspec::{RefSpecRef, parse};
+use gix_refspec_remote::{Upstream, upstream_of};
+use gix_refspec_text::side::joined;
+use refspec_io::quote::write_in_message;
+use std::alloc::{AllocError, Global};
+
+// A branch without an upstream.
+#[derive(Clone, Copy, Debug)]
+pub(crate) struct Lack<'r, 'q, 'spec> {
+    // What it merges.
+    pub(crate) merged: &'r Merged<'q, 'spec>,
+    // The canonical text of the spec that is the reason, if one is.
+    pub(crate) spec: Option<&'r [u8]>,
+    pub(crate) why: Why,
+}
+
+// Why a branch has no upstream.
+#[derive(Clone, Copy, Debug)]
+pub(crate) enum Why {
+    // A negative spec excludes what it merges.
+    Excluded,
+    // What it merges is fetched, but not stored.
+    NotStored,
+    // What it merges isn't fetched.
+    NotFetched,
+}
+
+impl Why {
+    // The sentence that says so.
+    pub(crate) fn message(self) -> &'static str {
+        match self {
+            Why::Excluded => "There is no upstream, as a negative spec excludes the merged ref.",
+            Why::NotStored => "There is no upstream, as the merged ref is fetched, but not stored.",
+            Why::NotFetched => "There is no upstream, as no spec fetches the merged ref.",
+        }
+    }
+}
+
+// What to do to give a branch an upstream, in a line.
+pub(crate) fn advice_on(alloc: Global, lack: &Lack<'_, '_, '_>) -> Result<Vec<u8>, AllocError> {
+    let mut advice = Vec::new(alloc);
+    match (lack.why, lack.spec) {
+        (Why::Excluded, Some(text)) => {
+            advice.extend_from_slice(b"Leave out ")?;
+            write_in_message(&mut advice, text)?;
+            advice.push(b'.')?;
+        }
+        _ => write_value(alloc, lack.merged, &mut advice)?,
+    }
+    Ok(advice)
+}
+
+const NO_NAME: &[u8] = b"Give the name of a ref: this is none.";
+
+// Appends which spec would store what a branch merges.
+fn write_value(
+    alloc: Global,
+    merged: &Merged<'_, '_>,
+    out: &mut Vec<u8>,
+) -> Result<(), AllocError> {
+    let Some(folder) = folder_of(merged.name) else {
+        return write_full_name(alloc, merged.name, out);
+    };
+    let value = value_for(alloc, merged, folder)?;
+    let spec = match parse(alloc, value.as_bstr(), Operation::Fetch) {
+        Ok(spec) => spec,
+        Err(Error::Memory) => return Err(AllocError),
+        Err(_) => return out.extend_from_slice(NO_NAME),
+    };
+    match excluding_with(alloc, merged.specs, spec, merged.name)? {
+        Some(index) => {
+            let text = text_at(alloc, merged.specs, Some(index))?;
+            out.extend_from_slice(b"Leave out ")?;
+            write_in_message(out, text.as_bytes())?;
+            write_addition(b", and add a spec such as ", value.as_bytes(), out)
+        }
+        None => write_addition(b"Add a spec such as ", value.as_bytes(), out),
+    }
+}
+
+// The index of the negative spec that excludes a merged ref if there is one more spec.
+fn excluding_with<'s>(
+    alloc: Global,
+    specs: &[RefSpecRef<'s>],
+    spec: RefSpecRef<'s>,
+    name: &[u8],
+) -> Result<Option<usize>, AllocError> {
+    let mut all = Vec::from_slice(alloc, specs)?;
+    all.push(spec)?;
+    match upstream_of(alloc, all.as_slice(), BStr::new(name))? {
+        Upstream::Excluded { excluded_by, .. } => Ok(Some(excluded_by)),
+        Upstream::Tracked { .. } | Upstream::NotStored { .. } | Upstream::NotFetched => Ok(None),
+    }
+}
+
+// Appends which full name is to be given in place of a name.
+fn write_full_name(alloc: Global, name: &[u8], out: &mut Vec<u8>) -> Result<(), AllocError> {
+    let full = joined(alloc, b"refs/heads/", name, b"")?;
+    match parse(alloc, full.as_bstr(), Operation::Fetch) {
+        Err(Error::Memory) => Err(AllocError),
+        Err(_) => out.extend_from_slice(NO_NAME),
+        Ok(_) => {
+            out.extend_from_slice(b"Give the full name of the merged ref, such as ")?;
+            write_in_message(out, full.as_bytes())?;
+            out.extend_from_slice(b": Git compares names as they are written.")
+        }
+    }
+}
+
+// Appends that a spec is to be added, after these words.
+fn write_addition(words: &[u8], value: &[u8], out: &mut Vec<u8>) -> Result<(), AllocError> {
+    out.extend_from_slice(words)?;
+    write_in_message(out, value)?;
+    out.extend_from_slice(b".")
+}
+
+// The part of a ref name that is stored below the folder of a remote. `None` if the name isn't a full one.
+fn folder_of(name: &[u8]) -> Option<&[u8]> {
+    if name == b"HEAD".as_slice() {
+        return Some(name);
+    }
+    match name.strip_prefix(b"refs/heads/") {
+        Some(branch) => Some(branch),
+        None => name.strip_prefix(b"refs/"),
+    }
+}
+
+// The text of the spec that stores a merged ref below the folder of its remote, or of `origin` if that has no name.
+fn value_for(alloc: Global, merged: &Merged<'_, '_>, folder: &[u8]) -> Result<BString, AllocError> {
+    let mut text = Vec::new(alloc);
+    text.push(b'+')?;
+    text.extend_from_slice(merged.name)?;
+    text.extend_from_slice(b":refs/remotes/")?;
+    text.extend_from_slice(merged.remote.unwrap_or(b"origin".as_slice()))?;
+    text.push(b'/')?;
+    text.extend_from_slice(folder)?;
+    Ok(BString::new(text))
+}
