@@ -1,9 +1,10 @@
+pub mod ArgumentLemmas
 mod BooleanLemmas
 mod ChoiceLemmas
 mod FetchLemmas
 mod RefusalLemmas
 mod RemoteLemmas
-mod SettingLemmas
+pub mod SettingLemmas
 mod WordLemmas
 pub mod KeyFacts
 mod facts

@@ -1,3 +1,4 @@
+pub mod ArgumentFacts
 pub mod BooleanFacts
 pub mod NeededFacts
 pub mod SettingFacts

@@ -1,7 +1,9 @@
+pub mod Arguments
 pub mod Booleans
 pub mod Calls
 pub mod Choices
 pub mod Needed
+pub mod Reading
 pub mod Refusals
 pub mod Remotes
 pub mod Settings

@@ -1,6 +1,7 @@
 -- How a call is refused: the exit status and the message. This project's own rule.
-use Rattle.std.specs.Prelude.{◌≡◌, ℕ, List, [], ◌∷◌, ◌++◌, ⊤, codes}
+use Rattle.std.specs.Prelude.{◌≡◌, ℕ, List, [], ◌∷◌, ◌++◌, ⊤, codes, cond}
 use Rattle.std.specs.List.{flat_map}
+use Rattle.std.specs.Str.{bytes_eq}
 use Rattle.refspec_io.specs.Shown.{IsQuoted}
 use Rattle.refspec_io.specs.declared.settings.Setting.{Setting}
 use Rattle.refspec_request.specs.declared.refusal.Refusal.{Refusal}
@@ -13,6 +14,7 @@ refusal_status (refusal.OldForm name folder) = 1
 refusal_status (refusal.BadBoolean origin key value) = 1
 refusal_status (refusal.NoValue origin key) = 1
 refusal_status refusal.NoValuesAtAll = 1
+refusal_status (refusal.NoValuesOf remote) = 1
 refusal_status refusal.OtherRefused = 1
 refusal_status refusal.Memory = 3
 refusal_status _ = 2
@@ -42,9 +44,13 @@ Writes pieces old new = (bytes : List ℕ) × AreSpelled pieces bytes × (new �
 abbrev pub about : List ℕ → List ℕ → List ℕ → List Piece
 about before text after = words before ∷ quoted text ∷ words after ∷ []
 
+-- an origin before a colon: that of `-c` without the colon with which Git ends it
+abbrev pub shown_origin : List ℕ → List ℕ
+shown_origin origin = cond (bytes_eq origin (codes "command line:")) (codes "command line") origin
+
 -- the origin and the key of a setting, before what is said of it
 abbrev pub location : List ℕ → List ℕ → List Piece
-location origin key = quoted origin ∷ about (codes ": ") key (codes ": ")
+location origin key = quoted (shown_origin origin) ∷ about (codes ": ") key (codes ": ")
 
 -- the sentence on an option of another command
 abbrev pub elsewhere_sentence : List ℕ → List ℕ → List Piece
@@ -107,6 +113,7 @@ sentence_of (refusal.Group name settings) = group_sentence name.now settings.now
 sentence_of (refusal.BadBoolean origin key value) = boolean_sentence origin.now key.now value.now
 sentence_of (refusal.NoValue origin key) = value_sentence origin.now key.now
 sentence_of refusal.NoValuesAtAll = words (codes "no remote has fetch values") ∷ []
+sentence_of (refusal.NoValuesOf remote) = about [] remote.now (codes " has no fetch values")
 sentence_of refusal.OtherRefused = words
     (codes "a value of another remote is refused, so Git uses none; `git refspec check` shows which") ∷ []
 sentence_of refusal.Memory = words (codes "out of memory") ∷ []

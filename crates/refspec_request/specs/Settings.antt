@@ -1,6 +1,5 @@
 -- Settings of Git's configuration, by git-config(1).
-use Rattle.std.specs.Prelude.{◌≡◌, ℕ, List, [], ◌∷◌, ◌++◌, Bool, Option, None, Some, option_map, filter}
-use Rattle.std.specs.List.{flat_map}
+use Rattle.std.specs.Prelude.{◌≡◌, ℕ, List, [], ◌∷◌, ◌++◌, Bool, Option, None, option_map, filter}
 use Rattle.std.specs.Str.{bytes_eq}
 use Rattle.gix_refspec_text.specs.Texts.Words.{Lacks}
 use Rattle.refspec_io.specs.declared.settings.Setting.{Setting}

@@ -107,8 +107,8 @@ fn ends_as_spec(argument: &[u8]) -> bool
     has_word(argument, b":refs/") || ends_with_colon(argument)
 }
 
-// Whether a text begins with another.
-pub(crate) fn begins_with(text: &[u8], start: &[u8]) -> bool
+/// Whether a text begins with another.
+pub fn begins_with(text: &[u8], start: &[u8]) -> bool
     ensures { IsTrue result ↔ BeginsWith start.now text.now }
 {
     text.starts_with(start)
@@ -120,8 +120,8 @@ fn ends_with_colon(text: &[u8]) -> bool
     text.ends_with(b":")
 }
 
-// Whether a text contains another.
-fn has_word(text: &[u8], word: &[u8]) -> bool
+/// Whether a text contains another.
+pub fn has_word(text: &[u8], word: &[u8]) -> bool
     ensures { IsTrue result ↔ ContainsText word.now text.now }
 {
     text.contains_str(word)

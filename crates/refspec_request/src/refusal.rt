@@ -1,10 +1,10 @@
 //! Why a call of `git refspec` ends with a message of its own.
 
-ghost use Rattle.std.specs.Prelude.{◌≡◌, ◌∷◌, [], OnOk};
+ghost use Rattle.std.specs.Prelude.{◌≡◌, ◌∷◌, [], OnOk, codes};
 ghost use Rattle.refspec_request.specs.Refusals.{Writes, advice_of, boolean_sentence, elsewhere_sentence};
 ghost use Rattle.refspec_request.specs.Refusals.{group_sentence, location, message_of, old_form_sentence};
 ghost use Rattle.refspec_request.specs.Refusals.{pieces_of_members, quoted, refusal_status, sentence_of};
-ghost use Rattle.refspec_request.specs.Refusals.{value_sentence, words};
+ghost use Rattle.refspec_request.specs.Refusals.{shown_origin, value_sentence, words};
 ghost use Rattle.refspec_request.specs.Remotes.{listed_in};
 
 use crate::remotes::{is_between_members, members_in};
@@ -13,6 +13,25 @@ use refspec_io::call::Form;
 use refspec_io::quote::{write_in_message, write_shown};
 use refspec_io::settings::Setting;
 use std::alloc::{AllocError, AllocFailed};
+
+const IDLE_REFMAP: &str =
+    "--refmap replaces the fetch values for given specs, and Git refuses it without any";
+
+const NO_REF: &str = "track takes a tracking ref, such as origin/main: git refspec track REF..";
+
+const URL_OR_SPEC: &str =
+    " may be a URL or a spec; put the remote before a spec, or `--`, and a URL after --remote";
+
+const NO_REMOTE_NO_SPEC: &str =
+    " is not a configured remote; `git remote` lists those, and a spec may follow `--`";
+
+const NO_DEFAULT: &str =
+    "no remote is given: the current branch has none, and neither a single one nor origin has a URL";
+
+const NOT_UTF8: &str = " is not UTF-8; give such a spec to refspec on its standard input";
+
+const OTHER_REFUSED: &str =
+    "a value of another remote is refused, so Git uses none; `git refspec check` shows which";
 
 /// Why a call is refused.
 #[derive(Clone, Copy, Debug)]
@@ -74,6 +93,8 @@ pub enum Refusal<'a> {
     },
     /// No remote has fetch values.
     NoValuesAtAll,
+    /// The remote of `--remote` has no fetch values.
+    NoValuesOf(&'a [u8]),
     /// A value of a remote that the arguments don't name is refused.
     OtherRefused,
     /// Memory ran out.
@@ -90,6 +111,7 @@ impl Refusal<'_> {
             | Refusal::BadBoolean { .. }
             | Refusal::NoValue { .. }
             | Refusal::NoValuesAtAll
+            | Refusal::NoValuesOf(_)
             | Refusal::OtherRefused => 1,
             Refusal::Memory => 3,
             _ => 2,
@@ -136,36 +158,12 @@ impl Refusal<'_> {
             Refusal::OptionElsewhere(option, command) => write_elsewhere(out, option, command),
             Refusal::NoRemoteName => write_words(out, "--remote takes the name of a remote"),
             Refusal::NoRefmap => write_words(out, "--refmap takes a spec, or an empty one"),
-            Refusal::IdleRefmap => write_words(
-                out,
-                "--refmap replaces the fetch values for given specs, and Git refuses it without any",
-            ),
-            Refusal::NoRef => write_words(
-                out,
-                "track takes a tracking ref, such as origin/main: git refspec track REF..",
-            ),
-            Refusal::UrlOrSpec(argument) => write_about(
-                out,
-                "",
-                argument,
-                " may be a URL or a spec; put the remote before a spec, or `--`, and a URL after --remote",
-            ),
-            Refusal::NoRemoteNoSpec(argument) => write_about(
-                out,
-                "",
-                argument,
-                " is not a configured remote; `git remote` lists those, and a spec may follow `--`",
-            ),
-            Refusal::NoDefault => write_words(
-                out,
-                "no remote is given: the current branch has none, and neither a single one nor origin has a URL",
-            ),
-            Refusal::NotUtf8(argument) => write_about(
-                out,
-                "",
-                argument,
-                " is not UTF-8; give such a spec to refspec on its standard input",
-            ),
+            Refusal::IdleRefmap => write_words(out, IDLE_REFMAP),
+            Refusal::NoRef => write_words(out, NO_REF),
+            Refusal::UrlOrSpec(argument) => write_about(out, "", argument, URL_OR_SPEC),
+            Refusal::NoRemoteNoSpec(argument) => write_about(out, "", argument, NO_REMOTE_NO_SPEC),
+            Refusal::NoDefault => write_words(out, NO_DEFAULT),
+            Refusal::NotUtf8(argument) => write_about(out, "", argument, NOT_UTF8),
             Refusal::Newline(argument) => {
                 write_about(out, "", argument, " has a newline, so it names no remote")
             }
@@ -181,10 +179,8 @@ impl Refusal<'_> {
             ),
             Refusal::NoValue { origin, key } => write_no_value(out, origin, key),
             Refusal::NoValuesAtAll => write_words(out, "no remote has fetch values"),
-            Refusal::OtherRefused => write_words(
-                out,
-                "a value of another remote is refused, so Git uses none; `git refspec check` shows which",
-            ),
+            Refusal::NoValuesOf(remote) => write_about(out, "", remote, " has no fetch values"),
+            Refusal::OtherRefused => write_words(out, OTHER_REFUSED),
             Refusal::Memory => write_words(out, "out of memory"),
         }
     }
@@ -270,8 +266,27 @@ fn write_no_value(out: &mut Vec<u8>, origin: &[u8], key: &[u8]) -> Result<(), Al
 fn write_location(out: &mut Vec<u8>, origin: &[u8], key: &[u8]) -> Result<(), AllocError>
     ensures { OnOk result (Writes (location origin.now key.now) out.old.items out.new.items) }
 {
+    write_key(out, shown_origin(origin), key)
+}
+
+// Appends an origin and a key, each before a colon.
+fn write_key(out: &mut Vec<u8>, origin: &[u8], key: &[u8]) -> Result<(), AllocError>
+    ensures { OnOk result (Writes (quoted origin.now ∷ (words (codes ": ") ∷ (quoted key.now
+        ∷ (words (codes ": ") ∷ [])))) out.old.items out.new.items) }
+{
     write_shown(out, origin, Form::Lines)?;
     write_about(out, ": ", key, ": ")
+}
+
+// An origin without the colon with which Git ends that of `-c`.
+fn shown_origin(origin: &[u8]) -> &[u8]
+    ensures { result.now ≡ shown_origin origin.now }
+{
+    if origin == b"command line:".as_slice() {
+        b"command line"
+    } else {
+        origin
+    }
 }
 
 // Appends words.

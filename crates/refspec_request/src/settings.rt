@@ -21,8 +21,8 @@ pub fn name_and_variable<'a>(section: &[u8], key: &'a [u8]) -> Option<(&'a [u8],
     split_at_last(rest, b'.')
 }
 
-// The text before and after the first occurrence of a byte.
-pub(crate) fn split_at_first(text: &[u8], byte: u8) -> Option<(&[u8], &[u8])>
+/// The text before and after the first occurrence of a byte. `None` if there is none.
+pub fn split_at_first(text: &[u8], byte: u8) -> Option<(&[u8], &[u8])>
     ensures { MatchOption result
         (Lacks byte text.now)
         (λ parts. (text.now ≡ parts.0.now ++ (byte ∷ parts.1.now)) × Lacks byte parts.0.now) }

@@ -256,6 +256,14 @@ fn refuses_other_options(rt: HostRuntime) {
             Err(Refusal::OptionElsewhere(_, "check"))
         )
     );
+    // The first of several.
+    let arguments: [&[u8]; 3] = [b"track", b"--patterns", b"-v"];
+    assert!(rt;
+        matches!(
+            purpose_of(rt.alloc(), &arguments),
+            Err(Refusal::OptionElsewhere("--patterns", "prefixes"))
+        )
+    );
     let arguments: [&[u8]; 1] = [b"--json"];
     assert!(rt; matches!(purpose_of(rt.alloc(), &arguments), Err(Refusal::NoCommand)));
     let arguments: [&[u8]; 2] = [b"track", b"--remote"];
@@ -608,6 +616,17 @@ fn writes_the_messages_of_refusals(rt: HostRuntime) -> Result<(), Fail> {
                 key: b"remote.o.url",
             },
             "git refspec: file:a: remote.o.url: the value is missing, so Git stops; write `=` and a value behind the key, or remove its line\n",
+        ),
+        (
+            Refusal::NoValue {
+                origin: b"command line:",
+                key: b"remote.o.url",
+            },
+            "git refspec: command line: remote.o.url: the value is missing, so Git stops; write `=` and a value behind the key, or remove its line\n",
+        ),
+        (
+            Refusal::NoValuesOf(b"up"),
+            "git refspec: up has no fetch values\n",
         ),
         (
             Refusal::NoSuchOption(b"--x"),

@@ -1,5 +1,5 @@
 -- The values of keys in a configuration, as `git config --get` and `--get-all` print them.
-use Rattle.std.proofs.Common.{◌≡◌, ℕ, List, [], ◌∷◌, ◌++◌, Bor, None, Some, codes, map, refl}
+use Rattle.std.proofs.Common.{◌≡◌, ℕ, List, [], ◌∷◌, Bor, None, Some, codes, map, refl}
 use Rattle.refspec_io.specs.declared.settings.Setting.{Setting}
 use Rattle.refspec_request.specs.Settings.{joined_key, settings_with, value_in, value_of_last}
 
