@@ -1,7 +1,12 @@
 mod AnswerLemmas
+mod AskedLemmas
+mod ChosenLemmas
 mod ConfiguredLemmas
 mod FetchLemmas
 mod GivenLemmas
+mod NamedLemmas
+mod RefLemmas
 mod StopsLemmas
+mod TrackingLemmas
 mod WantedLemmas
 mod facts

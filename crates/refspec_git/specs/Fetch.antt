@@ -7,6 +7,8 @@ use Rattle.gix_refspec.specs.Matching.Lists.{IsMadeFrom}
 use Rattle.gix_refspec.specs.Matching.Match.{Ref}
 use Rattle.gix_refspec.specs.Specs.Reading.{Reading}
 use Rattle.gix_refspec_text.specs.declared.parsing.Operation.TheVariants as operation
+use Rattle.refspec_io.specs.declared.call.Limit.{Limit}
+use Rattle.refspec_io.specs.declared.call.Limit.TheVariants as limit
 use Rattle.refspec_io.specs.Input.{AreRecords}
 use Rattle.refspec_io.specs.Json.{AddsObjects}
 use Rattle.refspec_io.specs.Messages.{AreRefusals}
@@ -127,6 +129,11 @@ ReportsFetch f status old new =
 abbrev pub subject_of : Subcommand → Bool → Subject
 subject_of c prune = cond (is_stale c) subject.Stale (cond prune subject.Both subject.Updates)
 
+-- how much of each kind of messages a request asks for: all, or at most 20
+abbrev pub limit_of : Bool → Limit
+limit_of true = limit.All
+limit_of false = limit.Twenty
+
 -- the Git commands that list the refs of a remote, and those here if these count
 abbrev pub listing : Subject → Bor (List ℕ) → List ℕ
 listing s remote = requested (call.Lines remote) ++ cond (asks_stale s) (requested call.Local) []
@@ -143,7 +150,7 @@ pub record IsReported (r : Repository) (request : Request) (choice : Choice) (ou
   pub specs : MapsBy r request choice fetch.specs
   pub subject : fetch.subject ≡ subject_of request.command request.prune
   pub long : fetch.style.long ≡ request.long
-  pub all : fetch.style.all ≡ request.all
+  pub limit : fetch.style.limit ≡ limit_of request.all
   pub reports : ReportsFetch fetch output.status (record { form = request.form; results = []; messages = [] }) report
   pub results : output.results.items ≡ report.results
   pub messages : output.messages.items ≡ report.messages

@@ -1,6 +1,11 @@
 pub mod Answers
+pub mod Asked
+pub mod Chosen
 pub mod Configured
 pub mod Fetch
+pub mod Named
+pub mod Refs
 pub mod Stops
 pub mod Texts
+pub mod Tracking
 pub mod Wanted

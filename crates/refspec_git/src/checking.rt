@@ -1,27 +1,29 @@
 //! What `git refspec check` reports, and the refused values that stop the other commands.
 
+ghost use Rattle.std.specs.Prelude.{◌≡◌, ◌⊎◌, IfOk, List, MatchBool, MatchOption, None};
+ghost use Rattle.refspec_io.specs.declared.settings.Setting.{Setting};
+ghost use Rattle.refspec_io.specs.Read.{AreGood, HasBad};
+ghost use Rattle.refspec_io.specs.Settings.{HasLacking};
+ghost use Rattle.refspec_git.specs.Chosen.{AreUsable, AreValuesOf, HasUnusable};
+
 use crate::answer::{Machine, Stop};
+use crate::chosen::{Chosen, chosen_of, specs_in, texts_of, values_of};
 use crate::stops::bad_setting;
-use crate::texts::{argument, utf8, value};
 use crate::warnings::Remotes;
-use gix_refspec::parsing::Operation;
 use refspec_commands::checking::{Answer, Question, answer_to};
 use refspec_commands::specs::report_texts;
 use refspec_commands::warnings::report_warnings;
 use refspec_io::call::Form;
-use refspec_io::checked::{check_all, has_bad};
+use refspec_io::checked::{Checked, check_all, has_bad};
 use refspec_io::lacking::refuse_lacking;
 use refspec_io::report::Report;
-use refspec_io::settings::{Setting, has_lacking, operation_of};
-use refspec_io::texts::Text;
+use refspec_io::settings::{Setting, has_lacking};
 use refspec_json::SpecKind;
 use refspec_request::arguments::Request;
-use refspec_request::choice::{Looks, Repository, looks_of};
+use refspec_request::choice::Repository;
 use refspec_request::output::Output;
 use refspec_request::refusal::Refusal;
-use refspec_request::settings::name_and_variable;
 use std::alloc::{AllocError, Global};
-use std::collections::BTreeSet;
 
 /// Reports the values of the remotes in the arguments, and the specs; without arguments the values of all remotes.
 pub fn report_check<'a, M: Machine>(
@@ -168,161 +170,47 @@ fn found_in<'a>(
     Ok(found)
 }
 
-// The specs among the arguments, as texts.
-fn specs_in<'a>(
-    alloc: Global,
-    request: &Request<'_>,
-    chosen: &Chosen<'a>,
-) -> Result<Vec<Text<'a>>, AllocError> {
-    let mut texts = Vec::with_capacity(alloc, chosen.specs.len())?;
-    for (index, spec) in chosen.specs.iter().enumerate() {
-        let number = index.saturating_add(1);
-        texts.push(argument(number, operation_for(request), spec.as_bytes()))?;
-    }
-    Ok(texts)
-}
-
-// The values of settings, as texts, in order.
-fn texts_of<'a>(alloc: Global, values: &[Setting<'a>]) -> Result<Vec<Text<'a>>, AllocError> {
-    let mut texts = Vec::with_capacity(alloc, values.len())?;
-    for setting in values {
-        if let (Some(operation), Some(bytes)) = (operation_of(setting.key), setting.value) {
-            texts.push(value(setting, operation, bytes))?;
-        }
-    }
-    Ok(texts)
-}
-
-// The operation of the specs among the arguments.
-fn operation_for(request: &Request<'_>) -> Operation {
-    if request.push {
-        Operation::Push
-    } else {
-        Operation::Fetch
-    }
-}
-
-// The remotes and specs to check.
-#[derive(Drop)]
-struct Chosen<'a> {
-    // The names of remotes, or all remotes.
-    remotes: Option<BTreeSet<&'a [u8]>>,
-    specs: Vec<&'a str>,
-}
-
-impl Chosen<'_> {
-    // Whether remotes are checked, and not specs alone.
-    fn has_remotes(&self) -> bool {
-        self.remotes.is_none() || self.names_remotes()
-    }
-
-    // Whether the arguments name remotes.
-    fn names_remotes(&self) -> bool {
-        match &self.remotes {
-            None => false,
-            Some(names) => !names.is_empty(),
-        }
-    }
-}
-
-// The remotes and specs that the arguments choose.
-fn chosen_of<'a>(
-    alloc: Global,
-    request: &Request<'a>,
-    repository: &Repository<'a, 'a>,
-) -> Result<Chosen<'a>, Stop<'a>> {
-    let mut specs = Vec::new(alloc);
-    if request.remote.is_none() && request.arguments.is_empty() {
-        return Ok(Chosen {
-            remotes: None,
-            specs,
-        });
-    }
-    let mut remotes = BTreeSet::new(alloc);
-    if let Some(name) = request.remote {
-        if !repository.has_remote(name) {
-            return Err(Stop::Refused(Refusal::NoRemoteNoSpec(name)));
-        }
-        remotes.insert(name)?;
-    }
-    for (number, name) in request.arguments.iter().enumerate() {
-        if is_remote(request, number, name, repository)? {
-            remotes.insert(*name)?;
-        } else {
-            specs.push(utf8(name)?)?;
-        }
-    }
-    for name in &remotes {
-        if let Some(refusal) = repository.old_remote(name) {
-            return Err(Stop::Refused(refusal));
-        }
-    }
-    Ok(Chosen {
-        remotes: Some(remotes),
-        specs,
-    })
-}
-
-// Whether an argument is a remote, and not a spec. With `--remote` all are specs; otherwise the name of a remote is
-// one. Any other argument is a spec after `--`, and refused before it; without `--` its looks decide which.
-fn is_remote<'a>(
-    request: &Request<'a>,
-    number: usize,
-    argument: &'a [u8],
-    repository: &Repository<'a, 'a>,
-) -> Result<bool, Refusal<'a>> {
-    if request.remote.is_some() {
-        return Ok(false);
-    }
-    if repository.has_remote(argument) {
-        return Ok(true);
-    }
-    let is_spec = match (request.dashes, looks_of(argument)) {
-        (Some(before), _) => number >= before,
-        (None, Looks::Spec | Looks::Either) => true,
-        (None, Looks::Url | Looks::Plain) => false,
-    };
-    if is_spec {
-        return Ok(false);
-    }
-    Err(Refusal::NoRemoteNoSpec(argument))
-}
-
-// The fetch and push values of these remotes, or of all, in order.
-fn values_of<'a>(
-    alloc: Global,
-    settings: &[Setting<'a>],
-    remotes: &Option<BTreeSet<&'a [u8]>>,
-) -> Result<Vec<Setting<'a>>, AllocError> {
-    let mut values = Vec::new(alloc);
-    for setting in settings {
-        if let Some((name, variable)) = name_and_variable(b"remote", setting.key) {
-            let is_chosen = match remotes {
-                None => true,
-                Some(names) => names.contains(&name),
-            };
-            if is_chosen && matches!(variable, b"fetch" | b"push") {
-                values.push(*setting)?;
-            }
-        }
-    }
-    Ok(values)
-}
-
 /// Reports the values of all remotes that are missing or refused, if there are any: then Git refuses to use any remote.
 pub fn refused_values(
     alloc: Global,
     settings: &[Setting<'_>],
     form: Form,
-) -> Result<Option<Report>, AllocError> {
+) -> Result<Option<Report>, AllocError>
+    ensures { IfOk result (λ report. (values : List Setting) × AreValuesOf None settings.now values
+        × MatchOption report (AreUsable values) (λ r. HasUnusable values × (r.form ≡ form))) }
+{
     let values = values_of(alloc, settings, &None)?;
     let texts = texts_of(alloc, values.as_slice())?;
     let checked = check_all(alloc, texts.as_slice())?;
-    if !has_lacking(values.as_slice()) && !has_bad(checked.as_slice()) {
+    if are_usable(values.as_slice(), checked.as_slice()) {
         return Ok(None);
     }
-    let mut report = Report::new(alloc, form);
-    refuse_lacking(alloc, values.as_slice(), &mut report)?;
-    report_texts(alloc, None, checked.as_slice(), &mut report)?;
+    let report = report_values(alloc, values.as_slice(), checked.as_slice(), form)?;
     Ok(Some(report))
+}
+
+// Whether no value is missing or refused.
+fn are_usable(values: &[Setting<'_>], checked: &[Checked<'_>]) -> bool
+    ensures { MatchBool result (¬ (HasLacking values.now) × AreGood checked.now)
+        (HasLacking values.now ⊎ HasBad checked.now) }
+{
+    if has_lacking(values) {
+        return false;
+    }
+    !has_bad(checked)
+}
+
+// The report on values that are missing, and then on those that are refused.
+fn report_values(
+    alloc: Global,
+    values: &[Setting<'_>],
+    checked: &[Checked<'_>],
+    form: Form,
+) -> Result<Report, AllocError>
+    ensures { IfOk result (λ report. report.form ≡ form) }
+{
+    let mut report = Report::new(alloc, form);
+    refuse_lacking(alloc, values, &mut report)?;
+    report_texts(alloc, None, checked, &mut report)?;
+    Ok(report)
 }

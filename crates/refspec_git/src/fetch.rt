@@ -1,7 +1,10 @@
 //! What `git refspec plan`, `git refspec stale` and `git refspec prefixes` report about a remote.
 
-ghost use Rattle.std.specs.Prelude.{◌≡◌, IfErr, IfOk};
-ghost use Rattle.refspec_git.specs.Fetch.{AnswersFetch, ListsRefs, RefusesFetch, subject_of};
+ghost use Rattle.std.specs.Prelude.{◌≡◌, map, IfErr, IfOk};
+ghost use Rattle.refspec_fetch.specs.Report.{report_of};
+ghost use Rattle.refspec_git.specs.Asked.{AnswersPrefixes, ReportsAsked, notation_of};
+ghost use Rattle.refspec_git.specs.Fetch.{AnswersFetch, ListsRefs, RefusesFetch, limit_of, subject_of};
+ghost use Rattle.refspec_git.specs.Wanted.{RefusesGiven};
 
 use crate::answer::{Answer, Machine, Stop, asks, reports};
 use crate::plan::{Fetch, report_on};
@@ -10,6 +13,7 @@ use refspec_commands::prefixes::answer::answer_to;
 use refspec_commands::prefixes::report::{Notation, report_answer};
 use refspec_fetch::question::{Subject, asks_stale};
 use refspec_fetch::report::Style;
+use refspec_io::call::Limit;
 use refspec_io::fault::Fault;
 use refspec_io::report::Report;
 use refspec_request::arguments::{Request, Subcommand};
@@ -39,7 +43,7 @@ pub fn report_fetch<'a, M: Machine>(
     };
     let style = Style {
         long: request.long,
-        all: request.all,
+        limit: limit_of(request),
         is_watched: machine.is_watched(),
         local: "git for-each-ref",
     };
@@ -53,6 +57,17 @@ pub fn report_fetch<'a, M: Machine>(
     let mut report = Report::new(alloc, request.form);
     let status = report_on(alloc, &fetch, &mut report)?;
     Ok(reports(report, status))
+}
+
+// How much of each kind of messages a request asks for.
+fn limit_of(request: &Request<'_>) -> Limit
+    ensures { result ≡ limit_of request.now.all }
+{
+    if request.all {
+        Limit::All
+    } else {
+        Limit::Twenty
+    }
 }
 
 // Asks for the refs of a remote, and for those here if these count.
@@ -78,24 +93,29 @@ fn subject_of(request: &Request<'_>) -> Subject
     }
 }
 
-/// Reports the ref prefixes to send to a remote.
+/// Reports the ref prefixes to send to a remote, or only the specs that are refused. Refuses arguments as
+/// `given_specs` does.
 pub fn report_prefixes<'a>(
     alloc: Global,
     request: &Request<'a>,
     repository: &Repository<'a, 'a>,
     choice: &Choice<'a>,
-) -> Result<Answer, Stop<'a>> {
-    let asked = Asked {
-        specs: specs_of(alloc, repository, choice)?,
-        notation: notation_of(request),
-    };
+) -> Result<Answer, Stop<'a>>
+    ensures ok { IfOk result (λ answer. AnswersPrefixes repository.now request.now choice.now answer) }
+    ensures refused { IfErr result (RefusesGiven (map (λ text. text.now) choice.now.specs.items)) }
+{
+    let specs = specs_of(alloc, repository, choice)?;
+    let notation = notation_of(request);
+    let asked = Asked { specs, notation };
     let mut report = Report::new(alloc, request.form);
     let status = report_asked(alloc, &asked, &mut report)?;
     Ok(reports(report, status))
 }
 
 // How a request wants prefixes to be written.
-fn notation_of(request: &Request<'_>) -> Notation {
+fn notation_of(request: &Request<'_>) -> Notation
+    ensures { result ≡ notation_of request.now.patterns }
+{
     if request.patterns {
         Notation::Pattern
     } else {
@@ -115,7 +135,10 @@ fn report_asked<'a>(
     alloc: Global,
     asked: &'a Asked<'a>,
     report: &mut Report,
-) -> Result<u8, AllocError> {
+) -> Result<u8, AllocError>
+    ensures { IfOk result (λ status. ReportsAsked asked.now.notation asked.now.specs status
+        (report_of report.old) (report_of report.new)) }
+{
     let texts = asked_texts(alloc, &asked.specs)?;
     let Some(specs) = specs_in(alloc, texts.as_slice(), report)? else {
         return Ok(1);

@@ -2,14 +2,19 @@
 //! asks for Git commands to be run, and returns its answer once their outputs are there.
 #![tactic(auto)]
 
+mod advice;
 pub mod answer;
 pub mod call;
 mod checking;
+mod chosen;
 mod configured;
 mod fetch;
 mod given;
+mod named;
 mod notes;
 mod plan;
+mod refs;
+mod remotes;
 mod sources;
 mod specs;
 mod stops;

@@ -108,7 +108,7 @@ fn unmatched_in(
     Ok(unmatched)
 }
 
-/// Notes what is unsure of a plan: of each kind all in JSON or in a style that shows all, else the first 20. Fails if
+/// Notes what is unsure of a plan: of each kind all in JSON, else those within the limit of a style. Fails if
 /// memory runs out.
 pub fn report_unsure(
     alloc: Global,
@@ -137,7 +137,7 @@ fn write_notes(
 ) -> Result<(), AllocError>
     ensures { OnOk result (KeepsReport report.old report.new) }
 {
-    let (shown, more) = names.split_at(reported_count(report.form, style.all, names.len()));
+    let (shown, more) = names.split_at(reported_count(report.form, style.limit, names.len()));
     for name in shown {
         write_note(alloc, kind, About::Ref(name), report)?;
     }

@@ -1,21 +1,26 @@
 //! The specs of a fetch of a remote, from the arguments and the configuration.
 
-ghost use Rattle.std.specs.Prelude.{◌≡◌, map, IfErr, IfOk, MatchOption};
+ghost use Rattle.std.specs.Prelude.{◌≡◌, ◌++◌, ◌∷◌, [], List, codes, cond, map, ℕ, IfErr, IfOk, MatchOption, OnOk};
 ghost use Rattle.bstr.specs.BStr.{bstr_bytes};
 ghost use Rattle.gix_refspec.specs.Views.Spec.{reading_of};
 ghost use Rattle.refspec_io.specs.Read.{AreRead};
 ghost use Rattle.refspec_io.specs.Texts.{given_of, said};
+ghost use Rattle.refspec_fetch.specs.Answer.{takes_all};
 ghost use Rattle.refspec_fetch.specs.Report.{report_of};
+ghost use Rattle.refspec_git.specs.Asked.{AreAskedTexts, AreConfiguredTexts, AreMergedOrHead, AreMergedTexts};
+ghost use Rattle.refspec_git.specs.Asked.{AreNamedTexts, unwritten};
 ghost use Rattle.refspec_git.specs.Fetch.{AreAmong, RefusesTexts, given_texts, merged_name, texts_in};
-ghost use Rattle.refspec_git.specs.Wanted.{AreSpecsOf, MapsBy, RefusesGiven, RefusesMapping, is_stale, refmap_text};
+ghost use Rattle.refspec_git.specs.Wanted.{AreSpecsOf, MapsBy, RefusesGiven, RefusesMapping, all_tags, is_stale};
+ghost use Rattle.refspec_git.specs.Wanted.{refmap_text};
 
 use crate::answer::Stop;
 use crate::configured::{fetch_texts, merges_of, pruning_setting, tags_of};
 use crate::given::given_specs;
-use crate::sources::{Names, merged_spec, takes_longer};
+use crate::sources::{Names, takes_longer};
 use crate::texts::{argument, value};
 use bstr::BStr;
 use gix_refspec::RefSpecRef;
+use gix_refspec::match_group::ref_names::is_ref_name;
 use gix_refspec::parsing::Operation;
 use refspec_commands::specs::report_texts;
 use refspec_fetch::question::Tags;
@@ -53,26 +58,101 @@ pub fn texts_of<'a>(alloc: Global, specs: &'a Specs<'a>) -> Result<Vec<Text<'a>>
     Ok(texts)
 }
 
-/// The texts of the specs by which a client asks for refs: the given ones, or without any the configured ones and what the
-/// branch merges, or without these `HEAD`; and all tags, if they are asked for.
-pub fn asked_texts<'a>(alloc: Global, specs: &'a Specs<'a>) -> Result<Vec<Text<'a>>, AllocError> {
-    let mut texts = given_texts(alloc, specs.given.as_slice())?;
-    if specs.given.is_empty() {
-        texts.extend_from_slice(specs.configured.as_slice())?;
-        for merge in &specs.merges {
-            let name = merged_name(merge);
-            if merged_spec(alloc, BStr::new(name))?.is_some() {
-                texts.push(argument(1, Operation::Fetch, name))?;
-            }
-        }
-        if specs.configured.is_empty() && specs.merges.is_empty() {
-            texts.push(argument(1, Operation::Fetch, b"HEAD"))?;
-        }
+/// The texts of the specs by which a client asks for refs: the given ones, or without any the configured ones and what
+/// the branch merges, or without these `HEAD`; and all tags, if they are asked for.
+pub fn asked_texts<'a>(alloc: Global, specs: &'a Specs<'a>) -> Result<Vec<Text<'a>>, AllocError>
+    ensures { IfOk result (λ texts. AreAskedTexts specs.now (map given_of texts.items)) }
+{
+    let mut texts = named_texts(alloc, specs)?;
+    add_all_tags(&mut texts, specs.tags)?;
+    Ok(texts)
+}
+
+// Adds the text of all tags, if all are asked for.
+fn add_all_tags(texts: &mut Vec<Text<'_>>, tags: Tags) -> Result<(), AllocError>
+    ensures { OnOk result (map given_of texts.new.items
+        ≡ map given_of texts.old.items ++ cond (takes_all tags) (unwritten all_tags ∷ []) []) }
+{
+    if takes_all(tags) {
+        return Ok(texts.push(argument(1, Operation::Fetch, ALL_TAGS.as_bytes()))?);
     }
-    if specs.tags == Tags::All {
-        texts.push(argument(1, Operation::Fetch, ALL_TAGS.as_bytes()))?;
+    Ok(())
+}
+
+fn takes_all(tags: Tags) -> bool
+    ensures { result ≡ takes_all tags }
+{
+    matches!(tags, Tags::All)
+}
+
+// The texts of the given specs, or without any those of the configured ones and of what the branch merges.
+fn named_texts<'a>(alloc: Global, specs: &'a Specs<'a>) -> Result<Vec<Text<'a>>, AllocError>
+    ensures { IfOk result (λ texts. AreNamedTexts specs.now (map given_of texts.items)) }
+{
+    let given = specs.given.as_slice();
+    if given.is_empty() {
+        return configured_texts(alloc, specs);
+    }
+    given_texts(alloc, given)
+}
+
+// The texts of the configured specs and of what the branch merges.
+fn configured_texts<'a>(alloc: Global, specs: &'a Specs<'a>) -> Result<Vec<Text<'a>>, AllocError>
+    ensures { IfOk result (λ texts. AreConfiguredTexts (map given_of specs.now.configured.items)
+        (map (λ m. m.now) specs.now.merges.items) (map given_of texts.items)) }
+{
+    let configured = specs.configured.as_slice();
+    let merges = specs.merges.as_slice();
+    if configured.is_empty() {
+        return merged_or_head(alloc, merges);
+    }
+    let mut texts = merged_texts(alloc, merges)?;
+    let mut all = Vec::from_slice(alloc, configured)?;
+    all.append(&mut texts)?;
+    Ok(all)
+}
+
+// The texts of what the branch merges, or without anything that of `HEAD`.
+fn merged_or_head<'a>(alloc: Global, merges: &[&'a [u8]]) -> Result<Vec<Text<'a>>, AllocError>
+    ensures { IfOk result (λ texts. AreMergedOrHead (map (λ m. m.now) merges.now) (map given_of texts.items)) }
+{
+    if merges.is_empty() {
+        return head_text(alloc);
+    }
+    merged_texts(alloc, merges)
+}
+
+// The text of `HEAD`.
+fn head_text<'a>(alloc: Global) -> Result<Vec<Text<'a>>, AllocError>
+    ensures { IfOk result (λ texts. map given_of texts.items ≡ unwritten (codes "HEAD") ∷ []) }
+{
+    let mut texts = Vec::new(alloc);
+    texts.push(argument(1, Operation::Fetch, b"HEAD"))?;
+    Ok(texts)
+}
+
+// The texts of what a branch merges, but for names that a server isn't asked for.
+fn merged_texts<'a>(alloc: Global, merges: &[&'a [u8]]) -> Result<Vec<Text<'a>>, AllocError>
+    ensures { IfOk result (λ texts.
+        AreMergedTexts (map (λ m. m.now) merges.now) (map given_of texts.items)) }
+{
+    let mut texts = Vec::with_capacity(alloc, merges.len())?;
+    for merge in merges {
+        add_merged(&mut texts, merge)?;
     }
     Ok(texts)
+}
+
+// Adds the text of what a branch merges, if a server is asked for that name.
+fn add_merged<'a>(texts: &mut Vec<Text<'a>>, merge: &'a [u8]) -> Result<(), AllocError>
+    ensures { OnOk result ((merges : List (List ℕ)) → AreMergedTexts merges (map given_of texts.old.items)
+        → AreMergedTexts (merges ++ merge.entry.now ∷ []) (map given_of texts.new.items)) }
+{
+    let name = merged_name(merge);
+    if is_ref_name(name) {
+        return Ok(texts.push(argument(1, Operation::Fetch, name))?);
+    }
+    Ok(())
 }
 
 /// The specs of texts. If some are refused, these are reported, and there are no specs.

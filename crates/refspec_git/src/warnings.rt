@@ -129,6 +129,8 @@ struct Remote<'a> {
     name: &'a [u8],
     url: Option<Setting<'a>>,
     values: Vec<Value<'a>>,
+    // What its negative values exclude. Nothing until all are read.
+    exclusions: Exclusions<'a>,
     // The key of its fetch values, also if they are refused.
     key: Option<&'a [u8]>,
     // Whether it has values for a push, or a setting that says whether it is a mirror.
@@ -140,18 +142,19 @@ struct Remote<'a> {
 }
 
 impl<'a> Remote<'a> {
-    fn new(alloc: Global, name: &'a [u8]) -> Remote<'a> {
-        Remote {
+    fn new(alloc: Global, name: &'a [u8]) -> Result<Remote<'a>, AllocError> {
+        Ok(Remote {
             name,
             url: None,
             values: Vec::new(alloc),
+            exclusions: Exclusions::of(alloc, &[])?,
             key: None,
             is_other: false,
             is_mirror: false,
             prune: None,
             prune_tags: None,
             tag_option: Tags::Followed,
-        }
+        })
     }
 
     // Takes a setting of it.
@@ -184,13 +187,14 @@ impl<'a> Remote<'a> {
         Ok(())
     }
 
-    // What its negative values exclude.
-    fn exclusions(&self, alloc: Global) -> Result<Exclusions<'a>, AllocError> {
+    // Finds what its negative values exclude.
+    fn exclude(&mut self, alloc: Global) -> Result<(), AllocError> {
         let mut specs = Vec::with_capacity(alloc, self.values.len())?;
         for value in &self.values {
             specs.push(value.spec)?;
         }
-        Exclusions::of(alloc, specs.as_slice())
+        self.exclusions = Exclusions::of(alloc, specs.as_slice())?;
+        Ok(())
     }
 
     // Whether it is a mirror: it is one by its setting, or in a bare repository by a value that maps each ref to itself.
@@ -221,12 +225,13 @@ fn remotes_in<'a>(alloc: Global, settings: &[Setting<'a>]) -> Result<Vec<Remote<
     let mut remotes: BTreeMap<&'a [u8], Remote<'a>> = BTreeMap::new(alloc);
     for setting in settings {
         if let Some((name, variable)) = name_and_variable(b"remote", setting.key) {
-            let remote = remotes.entry(name)?.or_insert(Remote::new(alloc, name));
+            let remote = remotes.entry(name)?.or_insert(Remote::new(alloc, name)?);
             remote.take(alloc, variable, setting)?;
         }
     }
     let mut found = Vec::with_capacity(alloc, remotes.len())?;
-    for (_, remote) in remotes {
+    for (_, mut remote) in remotes {
+        remote.exclude(alloc)?;
         found.push(remote)?;
     }
     Ok(found)
@@ -446,10 +451,9 @@ fn pruned_below(
 
 // Whether a pruning fetch keeps a local ref, as negative values exclude a source from which it could be written.
 fn is_kept(alloc: Global, remote: &Remote<'_>, name: &[u8]) -> Result<bool, AllocError> {
-    let exclusions = remote.exclusions(alloc)?;
     for value in &remote.values {
         if let Some(source) = value.source_of(alloc, name)? {
-            if exclusions.spec_of(source.as_slice()).is_some() {
+            if remote.exclusions.spec_of(source.as_slice()).is_some() {
                 return Ok(true);
             }
         }
@@ -459,10 +463,9 @@ fn is_kept(alloc: Global, remote: &Remote<'_>, name: &[u8]) -> Result<bool, Allo
 
 // A tag that a pruning fetch deletes, as all tags are fetched. `None` if negative values exclude each that is tried.
 fn pruned_tag(alloc: Global, remote: &Remote<'_>) -> Result<Option<Vec<u8>>, AllocError> {
-    let exclusions = remote.exclusions(alloc)?;
     for word in TAGS {
         let name = joined(alloc, b"refs/tags/", word, b"")?.into_vec();
-        if exclusions.spec_of(name.as_slice()).is_none()
+        if remote.exclusions.spec_of(name.as_slice()).is_none()
             && !is_kept(alloc, remote, name.as_slice())?
         {
             return Ok(Some(name));
@@ -705,6 +708,5 @@ fn writes(
     let Some(source) = value.source_of(alloc, name)? else {
         return Ok(false);
     };
-    let exclusions = remote.exclusions(alloc)?;
-    Ok(exclusions.spec_of(source.as_slice()).is_none())
+    Ok(remote.exclusions.spec_of(source.as_slice()).is_none())
 }
