@@ -2,8 +2,9 @@
 
 use bstr::BStr;
 use clap::{Arg, ArgAction, ArgMatches};
-use gix_refspec::parsing::Operation;
-use refspec_io::call::{Call, Command, Form, Terminator};
+use gix_refspec::parse;
+use gix_refspec::parsing::{Error, Operation};
+use refspec_io::call::{Call, Command, Form, Limit, Terminator};
 use std::alloc::{AllocError, Global};
 
 // The argument that means the standard input, for a spec or the name of a file.
@@ -29,6 +30,10 @@ pub fn command_line<'a>(alloc: Global) -> Result<clap::Command<'a>, AllocError> 
         .subcommand(stale_line(alloc)?)?
         .subcommand(track_line(alloc)?)?
         .subcommand(prefixes_line(alloc)?)?
+        .subcommand(upstream_line(alloc)?)?
+        .subcommand(prefetch_line(alloc)?)?
+        .subcommand(rename_line(alloc)?)?
+        .subcommand(why_line(alloc)?)?
         .subcommand(git_line(alloc)?)
 }
 
@@ -64,8 +69,16 @@ fn line_of<'a>(
     about: &'a str,
     specs: &'a str,
 ) -> Result<clap::Command<'a>, AllocError> {
-    clap::Command::new(alloc, name)
-        .about(about)
+    with_specs(alloc, clap::Command::new(alloc, name).about(about), specs)
+}
+
+// A command with the options that all commands have after its own arguments, and a help text for its specs.
+fn with_specs<'a>(
+    alloc: Global,
+    command: clap::Command<'a>,
+    specs: &'a str,
+) -> Result<clap::Command<'a>, AllocError> {
+    command
         .arg(
             Arg::new(alloc, "spec")
                 .value_name("SPEC")
@@ -256,6 +269,82 @@ fn prefixes_line<'a>(alloc: Global) -> Result<clap::Command<'a>, AllocError> {
     .long("patterns"))
 }
 
+fn upstream_line<'a>(alloc: Global) -> Result<clap::Command<'a>, AllocError> {
+    line(
+        alloc,
+        "upstream",
+        "Shows the tracking ref that Git takes for the upstream of a branch",
+    )?
+    .arg(
+        Arg::new(alloc, "merge")
+            .long("merge")
+            .value_name("REF")
+            .num_args(1)
+            .action(ArgAction::Append)
+            .required(true)
+            .help("The full name of the ref that the branch merges; may be given again"),
+    )
+}
+
+fn prefetch_line<'a>(alloc: Global) -> Result<clap::Command<'a>, AllocError> {
+    line(
+        alloc,
+        "prefetch",
+        "Prints what `git fetch --prefetch` applies in place of each refspec",
+    )
+}
+
+fn rename_line<'a>(alloc: Global) -> Result<clap::Command<'a>, AllocError> {
+    let command = clap::Command::new(alloc, "rename")
+        .about("Prints what `git remote rename` makes of each fetch value of a remote")
+        .arg(
+            Arg::new(alloc, "old")
+                .value_name("OLD")
+                .action(ArgAction::Set)
+                .required(true)
+                .help("The name of the remote"),
+        )?
+        .arg(
+            Arg::new(alloc, "new")
+                .value_name("NEW")
+                .action(ArgAction::Set)
+                .required(true)
+                .help("Its new name"),
+        )?;
+    with_specs(
+        alloc,
+        command,
+        "A value. Without any, or for `-`, values are read from the input, one a line",
+    )
+}
+
+fn why_line<'a>(alloc: Global) -> Result<clap::Command<'a>, AllocError> {
+    line_of(
+        alloc,
+        "why",
+        "Shows what each refspec of a fetch does with one ref of the remote",
+        "A refspec",
+    )?
+    .arg(
+        Arg::new(alloc, "ref")
+            .long("ref")
+            .value_name("NAME")
+            .num_args(1)
+            .action(ArgAction::Set)
+            .required(true)
+            .help("The full name of the ref, such as refs/heads/main"),
+    )?
+    .arg(
+        Arg::new(alloc, "refs")
+            .long("refs")
+            .value_name("FILE")
+            .action(ArgAction::Set)
+            .help(
+                "Reads the refs of the remote from this file, or from the standard input for `-`",
+            ),
+    )
+}
+
 /// The call for the matches of a command, from which it borrows. It names its inputs, and is watched only once the caller says
 /// so, who knows the terminal. Fails if memory runs out.
 pub fn call_of<'a>(
@@ -286,14 +375,19 @@ pub fn call_of<'a>(
         verbose: matches.get_flag("verbose"),
         patterns: matches.get_flag("patterns"),
         long: matches.get_flag("long"),
-        all: matches.get_flag("all"),
+        limit: limit_of(matches),
         warns: !matches.get_flag("no-warnings"),
         is_strict: matches.get_flag("strict"),
         is_watched: false,
-        reads_input: reads_refs || has_dash || file.is_some() || specs.is_empty(),
+        reads_input: match command {
+            Command::Why => matches.get_str("refs").is_some(),
+            _ => reads_refs || has_dash || file.is_some() || specs.is_empty(),
+        },
         specs,
         refs,
         merges: merges_of(alloc, matches)?,
+        remote: or_else(matches.get_str("old"), ""),
+        new_remote: or_else(matches.get_str("new"), ""),
         tags: matches.get_flag("tags"),
         prune: matches.get_str("local").is_some(),
         input,
@@ -301,6 +395,15 @@ pub fn call_of<'a>(
         configured: or_else(matches.get_str("configured"), ""),
         local: or_else(matches.get_str("local"), ""),
     })
+}
+
+// How many messages of a kind are reported.
+fn limit_of(matches: &ArgMatches<'_>) -> Limit {
+    if matches.get_flag("all") {
+        Limit::All
+    } else {
+        Limit::Twenty
+    }
 }
 
 // The operation of specs without a setting.
@@ -314,10 +417,10 @@ fn operation_of(matches: &ArgMatches<'_>) -> Operation {
 
 /// Whether the input of a command is refs of a remote.
 pub fn has_refs(command: Command) -> bool {
-    matches!(command, Command::Plan | Command::Stale)
+    matches!(command, Command::Plan | Command::Stale | Command::Why)
 }
 
-// The refs that the current branch merges.
+// The refs that branches merge.
 fn merges_of<'a>(alloc: Global, matches: &ArgMatches<'a>) -> Result<Vec<BStr<'a>>, AllocError> {
     let mut merges = Vec::new(alloc);
     for name in listed(alloc, matches, "merge")? {
@@ -334,6 +437,16 @@ pub fn names_two_inputs(name: &str, matches: &ArgMatches<'_>) -> bool {
     };
     let is_file = matches.get_str("specs").is_some_and(|file| file != INPUT);
     has_refs(command_of(name)) && has_dash && is_file
+}
+
+/// Whether Git takes a text for the name of a remote: it can be a folder of tracking refs. Fails if memory runs out.
+pub fn is_remote_name(alloc: Global, name: &str) -> Result<bool, AllocError> {
+    let text = format!(in alloc; "refs/heads/test:refs/remotes/{name}/test")?;
+    match parse(alloc, BStr::new(text.as_bytes()), Operation::Fetch) {
+        Ok(_) => Ok(true),
+        Err(Error::Memory) => Err(AllocError),
+        Err(_) => Ok(false),
+    }
 }
 
 /// Whether an option for a file has an empty name.
@@ -373,6 +486,10 @@ fn command_of(name: &str) -> Command {
         "plan" => Command::Plan,
         "stale" => Command::Stale,
         "track" => Command::Track,
+        "upstream" => Command::Upstream,
+        "prefetch" => Command::Prefetch,
+        "rename" => Command::Rename,
+        "why" => Command::Why,
         _ => Command::Prefixes,
     }
 }

@@ -1,5 +1,6 @@
 //! The program's side of `git refspec`: the files of its folder, and what it writes.
 
+use crate::files::fault_of;
 use crate::streams::{CLOSED_STATUS, Stream};
 use refspec_git::answer::{Answer, Machine};
 use refspec_git::call::answer_call;
@@ -27,18 +28,21 @@ impl Machine for Folder<'_> {
         match File::open(self.rt, path.as_str()) {
             Ok(mut file) => Ok(Some(read_input(self.rt.alloc(), &mut file)?)),
             Err(error) if error.kind() == ErrorKind::NotFound => Ok(None),
-            Err(_) => Err(Fault::Read),
+            Err(error) => Err(fault_of(&error, Fault::Read)),
         }
     }
 
     fn names(&self, folder: &str) -> Result<Vec<String>, Fault> {
         let mut names = Vec::new(self.rt.alloc());
-        let Ok(entries) = fs::read_dir(self.rt, folder) else {
-            return Ok(names);
+        let entries = match fs::read_dir(self.rt, folder) {
+            Ok(entries) => entries,
+            Err(error) if error.kind() == ErrorKind::OutOfMemory => return Err(Fault::Memory),
+            Err(_) => return Ok(names),
         };
         for entry in entries {
-            let Ok(entry) = entry else {
-                return Err(Fault::Read);
+            let entry = match entry {
+                Ok(entry) => entry,
+                Err(error) => return Err(fault_of(&error, Fault::Read)),
             };
             names.push(String::from_str(self.rt.alloc(), entry.file_name())?)?;
         }
@@ -73,7 +77,7 @@ fn ask(rt: &HostRuntime, path: &str, lines: &[u8]) -> u8 {
     };
     match fs::write(rt, path.as_str(), lines) {
         Ok(()) => 0,
-        Err(_) => fail(rt, Fault::Write),
+        Err(error) => fail(rt, fault_of(&error, Fault::Write)),
     }
 }
 

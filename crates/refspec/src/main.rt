@@ -2,17 +2,20 @@
 #![tactic(auto)]
 
 mod arguments;
+mod files;
 mod git;
 mod streams;
 
-use crate::arguments::{call_of, command_line, has_refs, names_no_file, names_two_inputs};
+use crate::arguments::{
+    call_of, command_line, has_refs, is_remote_name, names_no_file, names_two_inputs,
+};
+use crate::files::{fault_of, open};
 use crate::git::run_git;
 use crate::streams::{CLOSED_STATUS, Stream};
 use refspec_commands::run::run;
-use refspec_io::call::{Call, Command, Files};
+use refspec_io::call::{Call, Command, Files, Job};
 use refspec_io::fault::Fault;
 use refspec_io::input::read_input;
-use std::fs::File;
 use std::io::{IsTerminal, Write};
 use std::process::ExitCode;
 use std::{env, io};
@@ -81,7 +84,7 @@ fn show(rt: &HostRuntime, error: &clap::Error) -> u8 {
         Ok(()) if error.use_stderr() => USAGE_STATUS,
         Ok(()) => 0,
         Err(fault) if fault.kind() == io::ErrorKind::BrokenPipe => CLOSED_STATUS,
-        Err(_) => fail(rt, Fault::Write),
+        Err(fault) => fail(rt, fault_of(&fault, Fault::Write)),
     }
 }
 
@@ -89,9 +92,22 @@ fn show(rt: &HostRuntime, error: &clap::Error) -> u8 {
 fn run_call(rt: &HostRuntime, call: &Call<'_>) -> u8 {
     if has_refs(call.command) && has_no_specs(call) {
         let _ = eprintln!(rt;
-            "refspec: plan and stale need specs; give them as arguments, in a file by --specs, or for plan by --configured"
+            "refspec: plan, stale and why need specs; give them as arguments, in a file by --specs, or for plan by --configured"
         );
         return USAGE_STATUS;
+    }
+    if call.command == Command::Rename {
+        match is_remote_name(rt.alloc(), call.new_remote) {
+            Ok(true) => {}
+            Ok(false) => {
+                let _ = eprintln!(rt;
+                    "refspec: {:?} is not a valid name of a remote",
+                    call.new_remote
+                );
+                return USAGE_STATUS;
+            }
+            Err(_) => return fail(rt, Fault::Memory),
+        }
     }
     if counts_inputs(call) > 1 {
         let _ = eprintln!(rt;
@@ -117,7 +133,11 @@ fn run_with_files<'a>(rt: &HostRuntime, call: &Call<'a>) -> Result<u8, (Fault, &
     };
     let mut output = Stream::new(rt.stdout());
     let mut errors = Stream::new(rt.stderr());
-    match run_on_input(rt, call, &files, &mut output, &mut errors) {
+    let job = Job {
+        call: &*call,
+        files: &files,
+    };
+    match run_on_input(rt, &job, &mut output, &mut errors) {
         Ok(status) => Ok(status),
         Err(_) if output.is_closed() || errors.is_closed() => Ok(CLOSED_STATUS),
         Err(fault) => Err((fault, call.input)),
@@ -128,26 +148,23 @@ fn run_with_files<'a>(rt: &HostRuntime, call: &Call<'a>) -> Result<u8, (Fault, &
 // exit status.
 fn run_on_input<W: Write, E: Write>(
     rt: &HostRuntime,
-    call: &Call<'_>,
-    files: &Files<'_>,
+    job: &Job<'_>,
     output: &mut W,
     errors: &mut E,
 ) -> Result<u8, Fault> {
-    let alloc = rt.alloc();
+    let call = job.call;
     if call.input == "-" || !call.reads_input {
-        return run(alloc, call, files, &mut rt.stdin(), output, errors);
+        return run(rt.alloc(), job, &mut rt.stdin(), output, errors);
     }
-    match File::open(rt, call.input) {
-        Ok(mut file) => run(alloc, call, files, &mut file, output, errors),
-        Err(_) => Err(Fault::Read),
-    }
+    let mut file = open(rt, call.input)?;
+    run(rt.alloc(), job, &mut file, output, errors)
 }
 
 // Whether a call that reads refs has no specs at all.
 fn has_no_specs(call: &Call<'_>) -> bool {
     let is_given = !call.specs.is_empty() || !call.beside.is_empty();
     let is_configured = !call.configured.is_empty() || !call.merges.is_empty() || call.tags;
-    !is_given && (call.command == Command::Stale || !is_configured)
+    !is_given && (call.command != Command::Plan || !is_configured)
 }
 
 // How many of the files of a call are the standard input.
@@ -167,9 +184,9 @@ fn bytes_of<'a>(rt: &HostRuntime, name: &'a str) -> Result<Vec<u8>, (Fault, &'a 
     let read = if name == "-" {
         read_input(rt.alloc(), &mut rt.stdin())
     } else {
-        match File::open(rt, name) {
+        match open(rt, name) {
             Ok(mut file) => read_input(rt.alloc(), &mut file),
-            Err(_) => Err(Fault::Read),
+            Err(fault) => Err(fault),
         }
     };
     match read {
