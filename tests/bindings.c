@@ -283,6 +283,159 @@ static void check_printed(void)
     }
 }
 
+/* The canonical text of what the sides of a text make. */
+static uint32_t from_sides(const char *text, uint32_t operation, uint8_t *buffer, size_t buffer_len, size_t *len)
+{
+    gix_refspec_sides sides = GIX_REFSPEC_SIDES_INIT;
+    CHECK(gix_refspec_read(BYTES(text), operation, &sides) == GIX_REFSPEC_OK);
+    return gix_refspec_from_parts(&sides, operation, buffer, buffer_len, len);
+}
+
+/* Sides that a caller gives, and what they make: an outcome, and if that is OK the canonical text. */
+static const struct {
+    gix_refspec_sides sides;
+    uint32_t operation, outcome;
+    const char *text;
+} parts_rows[] = {
+    { { GIX_REFSPEC_FORCED, 1, 1, { BYTES("refs/heads/*") }, { BYTES("refs/x/*") } }, GIX_REFSPEC_FETCH, GIX_REFSPEC_OK,
+      "+refs/heads/*:refs/x/*" },
+    { { GIX_REFSPEC_NORMAL, 7, 0, { BYTES("main") }, { BYTES("a b") } }, GIX_REFSPEC_FETCH, GIX_REFSPEC_OK, "main" },
+    { { GIX_REFSPEC_NORMAL, 0, 7, { BYTES("a b") }, { BYTES("x") } }, GIX_REFSPEC_PUSH, GIX_REFSPEC_OK, ":x" },
+    { { GIX_REFSPEC_FORCED, 0, 1, { NULL, 0 }, { NULL, 0 } }, GIX_REFSPEC_PUSH, GIX_REFSPEC_OK, "+:" },
+    { { GIX_REFSPEC_NEGATIVE, 1, 0, { BYTES("a") }, { NULL, 0 } }, GIX_REFSPEC_FETCH, GIX_REFSPEC_OK, "^a" },
+    { { GIX_REFSPEC_NORMAL, 1, 1, { BYTES(":/fix") }, { BYTES("x") } }, GIX_REFSPEC_PUSH, GIX_REFSPEC_OK, ":/fix:x" },
+    { { GIX_REFSPEC_NORMAL, 1, 0, { BYTES("+a") }, { NULL, 0 } }, GIX_REFSPEC_FETCH, GIX_REFSPEC_OTHER_PARTS, "" },
+    { { GIX_REFSPEC_NORMAL, 1, 1, { BYTES("a") }, { BYTES("b:c") } }, GIX_REFSPEC_PUSH, GIX_REFSPEC_OTHER_PARTS, "" },
+    { { GIX_REFSPEC_NORMAL, 1, 0, { BYTES("a:b") }, { NULL, 0 } }, GIX_REFSPEC_FETCH, GIX_REFSPEC_OTHER_PARTS, "" },
+    { { GIX_REFSPEC_FORCED, 1, 1, { BYTES("a..b") }, { BYTES("c") } }, GIX_REFSPEC_FETCH, GIX_REFSPEC_NAME_REPEATED_DOT, "" },
+    { { GIX_REFSPEC_NEGATIVE, 1, 1, { BYTES("a") }, { BYTES("c") } }, GIX_REFSPEC_FETCH,
+      GIX_REFSPEC_NEGATIVE_WITH_DESTINATION, "" },
+    { { 0, 1, 0, { BYTES("a") }, { NULL, 0 } }, GIX_REFSPEC_FETCH, GIX_REFSPEC_NO_OPERATION, "" },
+    { { 4, 1, 0, { BYTES("a") }, { NULL, 0 } }, GIX_REFSPEC_FETCH, GIX_REFSPEC_NO_OPERATION, "" },
+    { { GIX_REFSPEC_NORMAL, 1, 0, { BYTES("a") }, { NULL, 0 } }, 3, GIX_REFSPEC_NO_OPERATION, "" },
+};
+
+static uint32_t make_forced(uint8_t *buffer, size_t buffer_len, size_t *len)
+{
+    return gix_refspec_from_parts(&parts_rows[0].sides, GIX_REFSPEC_FETCH, buffer, buffer_len, len);
+}
+
+static void check_made(void)
+{
+    uint8_t canonical[64], buffer[64];
+    size_t canonical_len = 0, len = 0;
+    for (size_t i = 0; i < sizeof kinds / sizeof *kinds; i++) {
+        if (kinds[i].kind == GIX_REFSPEC_PUSH_ALL_MATCHING)
+            continue; /* Without any side the text has no colon. */
+        CHECK(gix_refspec_canonical(BYTES(kinds[i].text), kinds[i].operation, canonical, 64, &canonical_len) == 0);
+        CHECK(from_sides(kinds[i].text, kinds[i].operation, buffer, 64, &len) == GIX_REFSPEC_OK);
+        CHECK(len == canonical_len && memcmp(buffer, canonical, len) == 0);
+    }
+    for (size_t i = 0; i < sizeof parts_rows / sizeof *parts_rows; i++) {
+        memset(buffer, 'x', sizeof buffer);
+        len = 99;
+        CHECK(gix_refspec_from_parts(&parts_rows[i].sides, parts_rows[i].operation, buffer, 64, &len) == parts_rows[i].outcome);
+        if (parts_rows[i].outcome == GIX_REFSPEC_OK)
+            CHECK(len == strlen(parts_rows[i].text) && memcmp(buffer, parts_rows[i].text, len) == 0);
+        else
+            CHECK(len == 99 && is_untouched(buffer, sizeof buffer));
+    }
+    check_buffer(make_forced, "+refs/heads/*:refs/x/*");
+}
+
+/* What git remote add, git remote add --mirror=fetch and hosts of reviews have as values. */
+static const struct {
+    uint32_t value;
+    const char *remote, *branch;
+    uint32_t outcome;
+    const char *text;
+} value_rows[] = {
+    { GIX_REFSPEC_BRANCH, "origin", "*", GIX_REFSPEC_OK, "+refs/heads/*:refs/remotes/origin/*" },
+    { GIX_REFSPEC_BRANCH, "a/b", "main", GIX_REFSPEC_OK, "+refs/heads/main:refs/remotes/a/b/main" },
+    { GIX_REFSPEC_MIRROR, "a b", "*", GIX_REFSPEC_OK, "+refs/*:refs/*" },
+    { GIX_REFSPEC_MIRROR, "", "heads/main", GIX_REFSPEC_OK, "+refs/heads/main:refs/heads/main" },
+    { GIX_REFSPEC_PULL_REQUESTS, "up", "a b", GIX_REFSPEC_OK, "+refs/pull/*/head:refs/remotes/up/pr/*" },
+    { GIX_REFSPEC_MERGE_REQUESTS, "up", "", GIX_REFSPEC_OK, "+refs/merge-requests/*/head:refs/remotes/up/merge-requests/*" },
+    { GIX_REFSPEC_BRANCH, "origin", "a..b", GIX_REFSPEC_NAME_REPEATED_DOT, "" },
+    { GIX_REFSPEC_BRANCH, "a:b", "*", GIX_REFSPEC_OTHER_PARTS, "" },
+    { GIX_REFSPEC_PULL_REQUESTS, "a*", "", GIX_REFSPEC_PATTERN_UNSUPPORTED, "" },
+    { 0, "origin", "*", GIX_REFSPEC_NO_OPERATION, "" },
+    { 5, "origin", "*", GIX_REFSPEC_NO_OPERATION, "" },
+};
+
+static uint32_t value_of_branch(uint8_t *buffer, size_t buffer_len, size_t *len)
+{
+    return gix_refspec_remote_value(GIX_REFSPEC_BRANCH, BYTES("origin"), BYTES("*"), buffer, buffer_len, len);
+}
+
+static void check_values(void)
+{
+    uint8_t buffer[64];
+    size_t len;
+    for (size_t i = 0; i < sizeof value_rows / sizeof *value_rows; i++) {
+        memset(buffer, 'x', sizeof buffer);
+        len = 99;
+        CHECK(gix_refspec_remote_value(value_rows[i].value, BYTES(value_rows[i].remote), BYTES(value_rows[i].branch), buffer, 64,
+                                       &len) == value_rows[i].outcome);
+        if (value_rows[i].outcome == GIX_REFSPEC_OK)
+            CHECK(len == strlen(value_rows[i].text) && memcmp(buffer, value_rows[i].text, len) == 0);
+        else
+            CHECK(len == 99 && is_untouched(buffer, sizeof buffer));
+    }
+    check_buffer(value_of_branch, "+refs/heads/*:refs/remotes/origin/*");
+}
+
+/* What git fetch --prefetch of Git 2.39 applies in place of a configured value, and what git remote rename makes of it. */
+static const struct {
+    const char *text, *prefetched;
+} prefetch_rows[] = {
+    { "refs/heads/*:refs/remotes/origin/*", "+refs/heads/*:refs/prefetch/remotes/origin/*" },
+    { "+main:x", "+main:refs/prefetch/x" },
+    { "^refs/heads/wip", "^refs/heads/wip" },
+    { "refs/tags/*:refs/tags/*", "" },
+    { "main", "" },
+};
+static const struct {
+    const char *value, *old_name, *new_name, *renamed;
+} rename_rows[] = {
+    { "+refs/heads/*:refs/remotes/origin/*", "origin", "up", "+refs/heads/*:refs/remotes/up/*" },
+    { "refs/heads/x:refs/remotes/o/x", "o", "n/p", "refs/heads/x:refs/remotes/n/p/x" },
+    { "a b:refs/remotes/o/:refs/remotes/o/x", "o", "", "a b:refs/remotes//:refs/remotes/o/x" }, /* Git refuses such a value */
+    { "+refs/heads/*:refs/remotes/origin/*", "orig", "up", "" },
+    { "^refs/remotes/origin/a", "origin", "up", "" },
+};
+
+static uint32_t prefetched(uint8_t *buffer, size_t buffer_len, size_t *len)
+{
+    return gix_refspec_prefetched(BYTES(prefetch_rows[0].text), buffer, buffer_len, len);
+}
+
+static uint32_t renamed(uint8_t *buffer, size_t buffer_len, size_t *len)
+{
+    return gix_refspec_renamed(BYTES(rename_rows[0].value), BYTES("origin"), BYTES("up"), buffer, buffer_len, len);
+}
+
+static void check_rewritten(void)
+{
+    uint8_t buffer[64];
+    size_t len = 99;
+    for (size_t i = 0; i < sizeof prefetch_rows / sizeof *prefetch_rows; i++) {
+        CHECK(gix_refspec_prefetched(BYTES(prefetch_rows[i].text), buffer, 64, &len) == GIX_REFSPEC_OK);
+        CHECK(len == strlen(prefetch_rows[i].prefetched) && memcmp(buffer, prefetch_rows[i].prefetched, len) == 0);
+    }
+    for (size_t i = 0; i < sizeof rename_rows / sizeof *rename_rows; i++) {
+        CHECK(gix_refspec_renamed(BYTES(rename_rows[i].value), BYTES(rename_rows[i].old_name), BYTES(rename_rows[i].new_name),
+                                  buffer, 64, &len) == GIX_REFSPEC_OK);
+        CHECK(len == strlen(rename_rows[i].renamed) && memcmp(buffer, rename_rows[i].renamed, len) == 0);
+    }
+    check_buffer(prefetched, prefetch_rows[0].prefetched);
+    check_buffer(renamed, rename_rows[0].renamed);
+    memset(buffer, 'x', sizeof buffer);
+    len = 99;
+    CHECK(gix_refspec_prefetched(BYTES("^"), buffer, 64, &len) == GIX_REFSPEC_NEGATIVE_EMPTY);
+    CHECK(len == 99 && is_untouched(buffer, sizeof buffer));
+}
+
 /* What Git makes of a name, if a remote has this ref and the command line this spec. */
 static const struct {
     const char *text, *name;
@@ -356,13 +509,13 @@ static void check_other_texts(void)
 
 static void check_explanations(void)
 {
-    for (uint32_t outcome = 0; outcome <= GIX_REFSPEC_INVALID_ID; outcome++) {
+    for (uint32_t outcome = 0; outcome <= GIX_REFSPEC_OTHER_PARTS; outcome++) {
         gix_refspec_text sentence = GIX_REFSPEC_TEXT_INIT;
         CHECK(gix_refspec_explanation(outcome, &sentence) == GIX_REFSPEC_OK);
         CHECK(sentence.len > 10 && memchr(sentence.bytes, 0, sentence.len + 1) == sentence.bytes + sentence.len);
         CHECK(sentence.bytes[sentence.len - 1] == '.');
     }
-    const uint32_t unknown[] = { GIX_REFSPEC_INVALID_ID + 1, 99, UINT32_MAX };
+    const uint32_t unknown[] = { GIX_REFSPEC_OTHER_PARTS + 1, 99, UINT32_MAX };
     for (size_t i = 0; i < sizeof unknown / sizeof *unknown; i++) {
         gix_refspec_text none = TEXT("as it was");
         CHECK(gix_refspec_explanation(unknown[i], &none) == GIX_REFSPEC_NO_OPERATION && is(none, "as it was"));
@@ -586,6 +739,57 @@ static void check_refs(void)
     CHECK(gix_refspec_match_refs(both, 3, tagged, 3, GIX_REFSPEC_BACKWARD, made, 4, buffer, 16, &count, &len) == 0 && count == 0);
 }
 
+/* Mappings as a caller makes them: the verdict on each, and in a conflict the first to its destination. */
+static const struct {
+    gix_refspec_pair pair;
+    uint32_t verdict;
+    size_t first;
+} pair_rows[] = {
+    { { TEXT("refs/heads/a"), TEXT("refs/x"), 0, 1 }, GIX_REFSPEC_PAIR_IN_CONFLICT, 0 },
+    { { TEXT("refs/heads/a"), TEXT("refs/y"), 0, 1 }, GIX_REFSPEC_PAIR_KEPT, GIX_REFSPEC_NO_PAIR },
+    { { TEXT("refs/heads/b"), TEXT("foo/x"), 0, 7 }, GIX_REFSPEC_PAIR_REMOVED, GIX_REFSPEC_NO_PAIR },
+    { { TEXT("refs/heads/b"), TEXT("HEAD"), 0, 1 }, GIX_REFSPEC_PAIR_KEPT, GIX_REFSPEC_NO_PAIR },
+    { { TEXT("refs/heads/b"), TEXT("refs/x"), 0, 0 }, GIX_REFSPEC_PAIR_KEPT, GIX_REFSPEC_NO_PAIR },
+    { { TEXT("refs/heads/b"), TEXT("refs/x"), 0, 1 }, GIX_REFSPEC_PAIR_IN_CONFLICT, 0 },
+    { { TEXT("refs/heads/a"), TEXT("refs/x"), 0, 1 }, GIX_REFSPEC_PAIR_IN_CONFLICT, 0 },
+    { { TEXT("refs/heads/a"), TEXT("refs/y"), 0, 1 }, GIX_REFSPEC_PAIR_KEPT, GIX_REFSPEC_NO_PAIR },
+    { { TEXT(ONES), TEXT("z"), 0, 1 }, GIX_REFSPEC_PAIR_IN_CONFLICT, 8 },
+    { { TEXT(ONES), TEXT("z"), 1, 1 }, GIX_REFSPEC_PAIR_IN_CONFLICT, 8 },
+    { { TEXT(ONES), TEXT("refs/z"), 1, 1 }, GIX_REFSPEC_PAIR_KEPT, GIX_REFSPEC_NO_PAIR },
+    { { TEXT(ONES), TEXT("refs/z"), 2, 1 }, GIX_REFSPEC_PAIR_KEPT, GIX_REFSPEC_NO_PAIR },
+};
+
+static void check_pairs(void)
+{
+    enum { rows = sizeof pair_rows / sizeof *pair_rows };
+    gix_refspec_pair pairs[rows];
+    gix_refspec_pair_verdict verdicts[rows + 1];
+    for (size_t i = 0; i < rows; i++)
+        pairs[i] = pair_rows[i].pair;
+    for (refused = 1;; refused++) {
+        memset(verdicts, 'x', sizeof verdicts);
+        growths = 0;
+        uint32_t outcome = gix_refspec_validate(pairs, rows, verdicts, rows + 1);
+        if (growths < refused) {
+            CHECK(outcome == GIX_REFSPEC_IN_CONFLICT && refused > 1);
+            break;
+        }
+        CHECK(outcome == GIX_REFSPEC_NO_MEMORY && is_untouched(verdicts, sizeof verdicts));
+    }
+    refused = 0;
+    for (size_t i = 0; i < rows; i++)
+        CHECK(verdicts[i].verdict == pair_rows[i].verdict && verdicts[i].first == pair_rows[i].first);
+    CHECK(is_untouched(verdicts + rows, sizeof *verdicts));
+    memset(verdicts, 'x', sizeof verdicts);
+    for (size_t room = 0; room < rows; room++)
+        CHECK(gix_refspec_validate(pairs, rows, verdicts, room) == GIX_REFSPEC_TOO_SMALL);
+    CHECK(is_untouched(verdicts, sizeof verdicts));
+    CHECK(gix_refspec_validate(pairs + 1, 4, verdicts, 4) == GIX_REFSPEC_OK);
+    CHECK(verdicts[0].verdict == GIX_REFSPEC_PAIR_KEPT && verdicts[1].verdict == GIX_REFSPEC_PAIR_REMOVED);
+    CHECK(is_untouched(verdicts + 4, (rows - 3) * sizeof *verdicts));
+    CHECK(gix_refspec_validate(NULL, 0, NULL, 0) == GIX_REFSPEC_OK);
+}
+
 static const gix_refspec_text planned[] = {
     TEXT("refs/heads/a:refs/x/a"), TEXT("refs/tags/*:other/*"), TEXT("refs/remotes/*ck:refs/x/*"),
     TEXT("+refs/heads/b:refs/x/a.lo"), TEXT("+refs/tags/b"), TEXT("1111111111111111111111111111111111111111:refs/y"),
@@ -791,6 +995,149 @@ static void check_stale(void)
     CHECK(made[1].item == 1 && (made[1].kept_by == 1 || made[1].kept_by == 2));
 }
 
+/* What specs do with one ref of a remote that has the names of `why_names`: the index of the name, and the effect of the last
+ * spec with its destination. */
+static const gix_refspec_text why_names[] = { TEXT("refs/heads/a"), TEXT("refs/heads/b"), TEXT("refs/tags/a"), TEXT("HEAD") };
+#define NONE GIX_REFSPEC_NO_SPEC, GIX_REFSPEC_NO_ITEM
+static const struct {
+    const char *texts, *name;
+    size_t item;
+    gix_refspec_effect effect;
+    const char *made;
+} why_rows[] = {
+    { "refs/heads/b:y refs/heads/*:refs/x/*", "refs/heads/a", 0, { GIX_REFSPEC_FATE_WRITTEN, 0, 1, 0, NONE, 0, 0, 0, 0, 8 },
+      "refs/x/a" },
+    { "a", "refs/tags/a", 2, { GIX_REFSPEC_FATE_WRITTEN, 0, 0, 0, NONE, 0, 0, 0, 0, 0 }, "" },
+    { "refs/tags/*:refs/x/*", "refs/heads/a", 0,
+      { GIX_REFSPEC_FATE_UNMATCHED, GIX_REFSPEC_MISMATCH_PREFIX, 0, 0, NONE, 5, 0, 0, 0, 0 }, "" },
+    { "refs/heads/*b:refs/x/*", "refs/heads/a", 0,
+      { GIX_REFSPEC_FATE_UNMATCHED, GIX_REFSPEC_MISMATCH_SUFFIX, 0, 0, NONE, 0, 0, 0, 0, 0 }, "" },
+    { "refs/heads/a*a:refs/x/*", "refs/heads/a", 0,
+      { GIX_REFSPEC_FATE_UNMATCHED, GIX_REFSPEC_MISMATCH_OVERLAP, 0, 0, NONE, 0, 0, 0, 0, 0 }, "" },
+    { "^refs/heads/b", "refs/heads/a", 0,
+      { GIX_REFSPEC_FATE_UNMATCHED, GIX_REFSPEC_MISMATCH_OTHER_NAME, 0, 0, NONE, 0, 0, 0, 0, 0 }, "" },
+    { "1111111111111111111111111111111111111111", "HEAD", 3,
+      { GIX_REFSPEC_FATE_UNMATCHED, GIX_REFSPEC_MISMATCH_OBJECT, 0, 0, NONE, 0, 0, 0, 0, 0 }, "" },
+    { "b", "refs/heads/a", 0,
+      { GIX_REFSPEC_FATE_UNMATCHED, GIX_REFSPEC_MISMATCH_NO_CANDIDATE, 0, 0, NONE, 0, 0, 0, 0, 0 }, "" },
+    { "a", "refs/heads/a", 0,
+      { GIX_REFSPEC_FATE_UNMATCHED, GIX_REFSPEC_MISMATCH_EARLIER_CANDIDATE, 0, 0, GIX_REFSPEC_NO_SPEC, 2, 0, 0, 0, 0, 0 }, "" },
+    { "^refs/heads/gone*", "refs/heads/gone1", GIX_REFSPEC_NO_ITEM,
+      { GIX_REFSPEC_FATE_EXCLUDES, 0, 0, 1, NONE, 0, 15, 1, 0, 0 }, "" },
+    { "^refs/heads/a", "refs/heads/a", 0, { GIX_REFSPEC_FATE_EXCLUDES, 0, 0, 0, NONE, 0, 0, 0, 0, 0 }, "" },
+    { "^refs/heads/* ^refs/heads/a refs/heads/a:refs/x", "refs/heads/a", 0,
+      { GIX_REFSPEC_FATE_EXCLUDED, 0, 1, 1, 0, GIX_REFSPEC_NO_ITEM, 0, 11, 1, 0, 6 }, "refs/x" },
+    { "refs/heads/*:refs/x/*", "refs/heads/a..b", GIX_REFSPEC_NO_ITEM,
+      { GIX_REFSPEC_FATE_INVALID_NAME, 0, 1, 0, NONE, 0, 0, 0, 0, 11 }, "refs/x/a..b" },
+    { "refs/heads/*:other/*", "refs/heads/a", 0,
+      { GIX_REFSPEC_FATE_INVALID_DESTINATION, 0, 1, 0, NONE, 0, 0, 0, 0, 7 }, "other/a" },
+    { "refs/heads/a:refs/x refs/heads/a:refs/x", "refs/heads/a", 0,
+      { GIX_REFSPEC_FATE_DUPLICATE, 0, 1, 0, 0, GIX_REFSPEC_NO_ITEM, 0, 0, 0, 6, 6 }, "refs/x" },
+    { "refs/tags/a:refs/x refs/heads/a:refs/x", "refs/heads/a", 0,
+      { GIX_REFSPEC_FATE_IN_CONFLICT, 0, 1, 0, 0, 2, 0, 0, 0, 0, 6 }, "refs/x" },
+    { "1111111111111111111111111111111111111111:refs/x refs/heads/a:refs/x", "refs/heads/a", 0,
+      { GIX_REFSPEC_FATE_IN_CONFLICT, 0, 1, 0, 0, GIX_REFSPEC_NO_ITEM, 0, 0, 0, 0, 6 }, "refs/x" },
+    { "refs/heads/b:refs/x/b refs/heads/a:refs/x", "refs/heads/a", 0,
+      { GIX_REFSPEC_FATE_DIRECTORY_CONFLICT, 0, 1, 0, 0, 1, 0, 0, 0, 0, 6 }, "refs/x" },
+};
+
+static bool are_alike(const gix_refspec_effect *a, const gix_refspec_effect *b)
+{
+    return a->fate == b->fate && a->mismatch == b->mismatch && a->has_destination == b->has_destination
+        && a->has_word == b->has_word && a->spec == b->spec && a->item == b->item && a->count == b->count
+        && a->word_at == b->word_at && a->word_len == b->word_len && a->made_at == b->made_at && a->made_len == b->made_len;
+}
+
+static const gix_refspec_text why_specs[] = { TEXT("a:b"), TEXT("refs/heads/*:refs/o/*") };
+
+static uint32_t why(uint8_t *buffer, size_t buffer_len, size_t *len)
+{
+    const gix_refspec_effect wanted[] = {
+        { GIX_REFSPEC_FATE_UNMATCHED, GIX_REFSPEC_MISMATCH_EARLIER_CANDIDATE, 0, 0, GIX_REFSPEC_NO_SPEC, 2, 0, 0, 0, 0, 0 },
+        { GIX_REFSPEC_FATE_WRITTEN, 0, 1, 0, NONE, 0, 0, 0, 0, 8 },
+    };
+    gix_refspec_effect effects[3];
+    size_t item = 99;
+    memset(effects, 'x', sizeof effects);
+    uint32_t outcome = gix_refspec_why(why_specs, 2, why_names, 4, BYTES("refs/heads/a"), effects, 3, buffer, buffer_len, &item,
+                                       len);
+    CHECK(item == (outcome == GIX_REFSPEC_NO_MEMORY ? 99 : 0));
+    CHECK(outcome == GIX_REFSPEC_OK ? are_alike(effects, wanted) && are_alike(effects + 1, wanted + 1)
+                                    : is_untouched(effects, 2 * sizeof *effects));
+    CHECK(is_untouched(effects + 2, sizeof *effects));
+    return outcome;
+}
+
+static void check_effects(void)
+{
+    gix_refspec_text texts[4];
+    gix_refspec_effect effects[4];
+    uint8_t buffer[32];
+    size_t item = 99, len = 99;
+    for (size_t i = 0; i < sizeof why_rows / sizeof *why_rows; i++) {
+        const size_t count = split(why_rows[i].texts, texts);
+        CHECK(gix_refspec_why(texts, count, why_names, 4, BYTES(why_rows[i].name), effects, 4, buffer, 32, &item, &len)
+              == GIX_REFSPEC_OK);
+        const gix_refspec_effect *last = effects + count - 1;
+        CHECK(item == why_rows[i].item && are_alike(last, &why_rows[i].effect));
+        CHECK(last->made_len == strlen(why_rows[i].made) && memcmp(buffer + last->made_at, why_rows[i].made, last->made_len) == 0);
+    }
+    check_buffer(why, "refs/o/a");
+    memset(effects, 'x', sizeof effects);
+    memset(buffer, 'x', sizeof buffer);
+    CHECK(gix_refspec_why(why_specs, 2, why_names, 4, BYTES("refs/heads/a"), effects, 1, buffer, 32, &item, &len)
+          == GIX_REFSPEC_TOO_SMALL);
+    CHECK(item == 0 && len == 8 && is_untouched(effects, sizeof effects) && is_untouched(buffer, 32));
+    item = len = 99;
+    CHECK(gix_refspec_why(stale_specs, 3, why_names, 4, BYTES("a"), effects, 4, buffer, 32, &item, &len)
+          == GIX_REFSPEC_NAME_INVALID_BYTE);
+    CHECK(item == 99 && len == 99 && is_untouched(effects, sizeof effects) && is_untouched(buffer, 32));
+}
+
+/* Values of remote.<name>.fetch and a merged ref, and what git rev-parse makes of the upstream. */
+static const struct {
+    const char *texts, *merge;
+    uint32_t kind;
+    size_t spec, excluded_by;
+    const char *name;
+} upstream_rows[] = {
+    { "+refs/heads/*:refs/remotes/o/*", "refs/heads/a", GIX_REFSPEC_TRACKED, 0, GIX_REFSPEC_NO_SPEC, "refs/remotes/o/a" },
+    { "refs/heads/b:b refs/heads/a:x refs/heads/*:y/*", "refs/heads/a", GIX_REFSPEC_TRACKED, 1, GIX_REFSPEC_NO_SPEC, "x" },
+    { "refs/heads/a:x ^refs/heads/b ^refs/heads/a", "refs/heads/a", GIX_REFSPEC_EXCLUDED, 0, 2, "" },
+    { "refs/heads/b:x refs/heads/a", "refs/heads/a", GIX_REFSPEC_NOT_STORED, 1, GIX_REFSPEC_NO_SPEC, "" },
+    { "refs/heads/*:refs/remotes/o/*", "a", GIX_REFSPEC_NOT_FETCHED, GIX_REFSPEC_NO_SPEC, GIX_REFSPEC_NO_SPEC, "" },
+    { "", "refs/heads/a", GIX_REFSPEC_NOT_FETCHED, GIX_REFSPEC_NO_SPEC, GIX_REFSPEC_NO_SPEC, "" },
+};
+
+static uint32_t upstream(uint8_t *buffer, size_t buffer_len, size_t *len)
+{
+    const gix_refspec_text texts[] = { TEXT("refs/heads/b"), TEXT("refs/heads/*:refs/remotes/o/*") };
+    gix_refspec_upstream_ref told = { 7, 7, 7, *len };
+    uint32_t outcome = gix_refspec_upstream(texts, 2, BYTES("refs/heads/a"), buffer, buffer_len, &told);
+    const bool is_set = outcome != GIX_REFSPEC_NO_MEMORY;
+    CHECK(told.kind == (is_set ? GIX_REFSPEC_TRACKED : 7) && told.spec == (is_set ? 1 : 7));
+    CHECK(told.excluded_by == (is_set ? GIX_REFSPEC_NO_SPEC : 7));
+    *len = told.len;
+    return outcome;
+}
+
+static void check_upstreams(void)
+{
+    gix_refspec_text texts[4] = { TEXT("a b") };
+    gix_refspec_upstream_ref told = { 7, 7, 7, 7 };
+    uint8_t buffer[32] = "xxx";
+    CHECK(gix_refspec_upstream(texts, 1, BYTES("a"), buffer, 32, &told) == GIX_REFSPEC_NAME_INVALID_BYTE);
+    CHECK(told.kind == 7 && told.spec == 7 && told.excluded_by == 7 && told.len == 7 && is_untouched(buffer, 3));
+    for (size_t i = 0; i < sizeof upstream_rows / sizeof *upstream_rows; i++) {
+        const size_t count = split(upstream_rows[i].texts, texts);
+        CHECK(gix_refspec_upstream(texts, count, BYTES(upstream_rows[i].merge), buffer, 32, &told) == GIX_REFSPEC_OK);
+        CHECK(told.kind == upstream_rows[i].kind && told.spec == upstream_rows[i].spec);
+        CHECK(told.excluded_by == upstream_rows[i].excluded_by && told.len == strlen(upstream_rows[i].name));
+        CHECK(memcmp(buffer, upstream_rows[i].name, told.len) == 0);
+    }
+    check_buffer(upstream, "refs/remotes/o/a");
+}
+
 /* `HEAD` is a name like others on either side, but a fetch doesn't write it. */
 static void check_head(void)
 {
@@ -838,6 +1185,14 @@ static void check_null(void)
     CHECK(gix_refspec_match(NULL, 0, NULL, 0, GIX_REFSPEC_FORWARD, NULL, 0, NULL, 0, &count, &len) == GIX_REFSPEC_OK);
     CHECK(count == 0 && len == 0);
     CHECK(gix_refspec_match(texts, 1, &none, 1, GIX_REFSPEC_BACKWARD, made, 2, buffer, 8, &count, &len) == GIX_REFSPEC_OK);
+    gix_refspec_upstream_ref upstream = GIX_REFSPEC_UPSTREAM_INIT;
+    CHECK(gix_refspec_upstream(NULL, 0, NULL, 0, NULL, 0, &upstream) == 0 && upstream.kind == GIX_REFSPEC_NOT_FETCHED);
+    CHECK(gix_refspec_why(NULL, 0, NULL, 0, NULL, 0, NULL, 0, NULL, 0, &count, &len) == 0 && count == GIX_REFSPEC_NO_ITEM);
+    CHECK(gix_refspec_prefetched(NULL, 0, NULL, 0, &len) == GIX_REFSPEC_OK && len == 0);
+    CHECK(gix_refspec_renamed(NULL, 0, NULL, 0, NULL, 0, NULL, 0, &len) == GIX_REFSPEC_OK && len == 0);
+    const gix_refspec_sides empty = { GIX_REFSPEC_NORMAL, 1, 0, none, none };
+    CHECK(gix_refspec_from_parts(&empty, GIX_REFSPEC_FETCH, NULL, 0, &len) == GIX_REFSPEC_TOO_SMALL && len == 4);
+    CHECK(gix_refspec_remote_value(GIX_REFSPEC_MIRROR, NULL, 0, BYTES("*"), NULL, 0, &len) == GIX_REFSPEC_TOO_SMALL);
     const gix_refspec_wish two = { .configured = texts, .configured_count = 2 }, one = { .given = texts, .given_count = 1 };
     CHECK(gix_refspec_plan(&two, names, 1, NULL, 0, NULL, 0, &count, &len) == GIX_REFSPEC_TOO_SMALL && count == 2);
     CHECK(gix_refspec_plan(&one, NULL, 0, NULL, 0, NULL, 0, &count, &len) == GIX_REFSPEC_OK && count == 0);
@@ -861,6 +1216,9 @@ static void *check_all(void *nothing)
     check_parts();
     check_sides();
     check_printed();
+    check_made();
+    check_values();
+    check_rewritten();
     check_order();
     check_other_texts();
     check_buffer(canonical, "+HEAD:refs/x");
@@ -871,11 +1229,14 @@ static void *check_all(void *nothing)
     check_mappings();
     check_looking_back();
     check_refs();
+    check_pairs();
     check_verdicts();
     check_other_plans();
     check_wishes();
     check_empty_merges();
     check_stale();
+    check_effects();
+    check_upstreams();
     check_head();
     check_null();
     check_explanations();

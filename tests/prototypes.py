@@ -28,11 +28,16 @@ IN_C = {
     "&mut Parts": ["gix_refspec_instruction *"],
     "&Parts": ["const gix_refspec_instruction *"],
     "&mut Sides": ["gix_refspec_sides *"],
+    "&Sides": ["const gix_refspec_sides *"],
+    "&[PairIn]": ["const gix_refspec_pair *", "size_t"],
+    "&mut [PairVerdictOut]": ["gix_refspec_pair_verdict *", "size_t"],
+    "&mut UpstreamOut": ["gix_refspec_upstream_ref *"],
     "&mut Span": ["gix_refspec_span *"],
     "&mut Made": ["gix_refspec_made *"],
     "&mut [MappingOut]": ["gix_refspec_mapping *", "size_t"],
     "&WishIn": ["const gix_refspec_wish *"],
     "&mut [StaleOut]": ["gix_refspec_stale_ref *", "size_t"],
+    "&mut [EffectOut]": ["gix_refspec_effect *", "size_t"],
 }
 # What each type of the crate gix-refspec-sys is in C.
 RUST_IN_C = {
@@ -49,11 +54,16 @@ RUST_IN_C = {
     "*mut Parts": "gix_refspec_instruction *",
     "*const Parts": "const gix_refspec_instruction *",
     "*mut Sides": "gix_refspec_sides *",
+    "*const Sides": "const gix_refspec_sides *",
+    "*const Pair": "const gix_refspec_pair *",
+    "*mut PairVerdict": "gix_refspec_pair_verdict *",
+    "*mut UpstreamRef": "gix_refspec_upstream_ref *",
     "*mut Span": "gix_refspec_span *",
     "*mut Made": "gix_refspec_made *",
     "*mut Mapping": "gix_refspec_mapping *",
     "*const Wish": "const gix_refspec_wish *",
     "*mut StaleRef": "gix_refspec_stale_ref *",
+    "*mut Effect": "gix_refspec_effect *",
 }
 # The programs that stand in docs/C.md.
 PROGRAMS = [("c", "planner.c"), ("rust", "refspec", "examples", "planner.rs"), ("python", "examples", "planner.py")]
@@ -63,11 +73,12 @@ OF_CALLS = {
     "NO_LIST": "Only a request for all refs is safe.",
     "TOO_SMALL": "The buffer has no room for the answer.",
     "NO_MEMORY": "Memory ran out.",
-    "NO_OPERATION": "There is no such operation, direction, kind or outcome.",
+    "NO_OPERATION": "There is no such operation, direction, kind, mode or outcome.",
     "NEEDS_IDS": "A destination is an object id, and names alone don't tell which refs have it.",
     "IN_CONFLICT": "Several refs would be written to one destination.",
     "MISSING_SOURCE": "The remote lacks the source of a refspec.",
     "INVALID_ID": "An object id has 40 or 64 hexadecimal digits.",
+    "OTHER_PARTS": "The source begins with a sign, or the last part has a colon in it.",
 }
 # The verdicts and origins of the sources whose names in C aren't theirs.
 IN_C_NAMED = {

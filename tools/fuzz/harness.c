@@ -197,6 +197,28 @@ static uint32_t made_name(const void *with, uint8_t *bytes, size_t room, size_t 
     return outcome;
 }
 
+static uint32_t printed(const void *with, uint8_t *bytes, size_t room, size_t *len)
+{
+    return gix_refspec_print(with, bytes, room, len);
+}
+
+static uint32_t prefetched(const void *with, uint8_t *bytes, size_t room, size_t *len)
+{
+    const of_one *one = with;
+    return gix_refspec_prefetched(one->spec.bytes, one->spec.len, bytes, room, len);
+}
+
+typedef struct {
+    gix_refspec_sides sides;
+    uint32_t operation;
+} of_sides;
+
+static uint32_t from_parts(const void *with, uint8_t *bytes, size_t room, size_t *len)
+{
+    const of_sides *of = with;
+    return gix_refspec_from_parts(&of->sides, of->operation, bytes, room, len);
+}
+
 static uint32_t check_of(text spec, uint32_t operation)
 {
     return gix_refspec_check(spec.bytes, spec.len, operation);
@@ -231,6 +253,45 @@ static void check_reads_back(text spec, uint32_t operation, const gix_refspec_in
     buffer twice;
     CHECK(filled(canonical, &one, &twice) == GIX_REFSPEC_OK && is((text){ twice.bytes, twice.len }, made));
     free(twice.all);
+}
+
+/* What a text says makes its canonical text, as its instruction does; of `:` and `+:` with a destination, which is empty. */
+static void check_made_again(text spec, uint32_t operation, const gix_refspec_instruction *parts, text made)
+{
+    of_sides of = { GIX_REFSPEC_SIDES_INIT, operation };
+    buffer again;
+    CHECK(filled(printed, parts, &again) == GIX_REFSPEC_OK && is((text){ again.bytes, again.len }, made));
+    free(again.all);
+    CHECK(gix_refspec_read(spec.bytes, spec.len, operation, &of.sides) == GIX_REFSPEC_OK);
+    tell(3, 8 + of.sides.mode * 4 + of.sides.has_source * 2 + of.sides.has_destination);
+    CHECK(is_within(of.sides.source, spec) || is(of.sides.source, LITERAL("HEAD")));
+    CHECK(is_within(of.sides.destination, spec));
+    CHECK((of.sides.source.len > 0) == of.sides.has_source && (of.sides.destination.len > 0) == of.sides.has_destination);
+    if (!of.sides.has_source && !of.sides.has_destination)
+        of.sides.has_destination = 1;
+    CHECK(filled(from_parts, &of, &again) == GIX_REFSPEC_OK && is((text){ again.bytes, again.len }, made));
+    free(again.all);
+}
+
+/* What a prefetch applies is a negative spec as it is, or forced and stored below refs/prefetch/. */
+static void check_prefetched(text spec, uint32_t outcome)
+{
+    of_one one = { spec, spec, GIX_REFSPEC_FETCH, false };
+    gix_refspec_instruction parts = GIX_REFSPEC_PARTS_INIT, own = GIX_REFSPEC_PARTS_INIT;
+    buffer made;
+    CHECK(filled(prefetched, &one, &made) == outcome);
+    tell(25, outcome != GIX_REFSPEC_OK ? 0 : made.len == 0 ? 1 : made.bytes[0] == '^' ? 2 : 3);
+    if (outcome == GIX_REFSPEC_OK) {
+        CHECK(gix_refspec_parts(spec.bytes, spec.len, GIX_REFSPEC_FETCH, &own) == GIX_REFSPEC_OK);
+        bool is_stored = own.kind == GIX_REFSPEC_FETCH_AND_UPDATE && !begins(own.source, LITERAL("refs/tags/"));
+        CHECK((made.len > 0) == (is_stored || own.kind == GIX_REFSPEC_FETCH_EXCLUDE));
+        if (made.len > 0) {
+            CHECK(gix_refspec_parts(made.bytes, made.len, GIX_REFSPEC_FETCH, &parts) == GIX_REFSPEC_OK);
+            CHECK(parts.kind == own.kind && parts.forced == is_stored && is(parts.source, own.source));
+            CHECK(!is_stored || begins(parts.destination, LITERAL("refs/prefetch/")));
+        }
+    }
+    free(made.all);
 }
 
 /* What a spec makes of a name, and back again: a pattern, and a full name with a full destination, have one source for it. */
@@ -269,6 +330,8 @@ static void check_text(text spec, const input *given, uint32_t operation)
     CHECK(gix_refspec_parts(spec.bytes, spec.len, operation, &parts) == outcome);
     CHECK(gix_refspec_prefix(spec.bytes, spec.len, operation, &prefix) == outcome);
     CHECK(filled(canonical, &one, &made) == outcome && filled(expansion, &one, &names) == outcome);
+    if (operation == GIX_REFSPEC_FETCH)
+        check_prefetched(spec, outcome);
     if (outcome != GIX_REFSPEC_OK) {
         CHECK(parts.kind == 0 && is(prefix, LITERAL("as it was")));
     } else {
@@ -279,6 +342,7 @@ static void check_text(text spec, const input *given, uint32_t operation)
         CHECK(names.len == 0 || names.bytes[names.len - 1] == '\n');
         CHECK(begins((text){ names.bytes, names.len }, prefix));
         check_reads_back(spec, operation, &parts, (text){ made.bytes, made.len });
+        check_made_again(spec, operation, &parts, (text){ made.bytes, made.len });
         for (size_t at = 0; at < given->names_count; at++) {
             one.name = given->names[at];
             one.is_backward = false;
@@ -309,6 +373,79 @@ static void check_order(text a, text b, uint32_t operation)
     CHECK((order == 0) == is((text){ ones.bytes, ones.len }, (text){ others.bytes, others.len }));
     free(ones.all);
     free(others.all);
+}
+
+/* Sides that needn't make a spec: either their text has others, or it is answered as that text is. */
+static void check_sides(text source, text destination, uint32_t mode, uint32_t operation)
+{
+    const char *signs[] = { "", "+", "^" };
+    const size_t sign_len = strlen(signs[mode - GIX_REFSPEC_NORMAL]);
+    of_sides of = { { mode, 1, destination.bytes != NULL, source, destination }, operation };
+    buffer joined = buffer_of(sign_len + source.len + (destination.bytes != NULL ? 1 + destination.len : 0)), made, wanted;
+    memcpy(joined.bytes, signs[mode - GIX_REFSPEC_NORMAL], sign_len);
+    if (source.len > 0)
+        memcpy(joined.bytes + sign_len, source.bytes, source.len);
+    if (destination.bytes != NULL) {
+        joined.bytes[sign_len + source.len] = ':';
+        memcpy(joined.bytes + sign_len + source.len + 1, destination.bytes, destination.len);
+    }
+    of_one one = { { joined.bytes, joined.len }, source, operation, false };
+    uint32_t outcome = filled(from_parts, &of, &made);
+    tell(26, outcome);
+    bool has_sign = mode == GIX_REFSPEC_NORMAL && source.len > 0 && (source.bytes[0] == '+' || source.bytes[0] == '^');
+    bool has_colon = contains(destination.bytes != NULL ? destination : source, ':');
+    CHECK((outcome == GIX_REFSPEC_OTHER_PARTS) == (has_sign || has_colon));
+    if (outcome != GIX_REFSPEC_OTHER_PARTS) {
+        CHECK(filled(canonical, &one, &wanted) == outcome);
+        CHECK(is((text){ made.bytes, made.len }, (text){ wanted.bytes, wanted.len }));
+        free(wanted.all);
+    }
+    free(made.all);
+    free(joined.all);
+}
+
+/* A new name of a remote, and the values of one. */
+
+typedef struct {
+    text value, old_name, new_name;
+    uint32_t kind;
+} of_remote;
+
+static uint32_t renamed(const void *with, uint8_t *bytes, size_t room, size_t *len)
+{
+    const of_remote *of = with;
+    return gix_refspec_renamed(of->value.bytes, of->value.len, of->old_name.bytes, of->old_name.len, of->new_name.bytes,
+                               of->new_name.len, bytes, room, len);
+}
+
+static uint32_t remote_value(const void *with, uint8_t *bytes, size_t room, size_t *len)
+{
+    const of_remote *of = with;
+    return gix_refspec_remote_value(of->kind, of->old_name.bytes, of->old_name.len, of->new_name.bytes, of->new_name.len, bytes,
+                                    room, len);
+}
+
+/* Only the name changes, below :refs/remotes/. A value is a forced fetch between names in refs/. */
+static void check_remote(of_remote of)
+{
+    buffer made;
+    CHECK(filled(renamed, &of, &made) == GIX_REFSPEC_OK);
+    tell(27, made.len > 0);
+    CHECK(made.len == 0 || made.len + of.old_name.len == of.value.len + of.new_name.len);
+    free(made.all);
+    for (of.kind = 0; of.kind <= GIX_REFSPEC_MERGE_REQUESTS + 1; of.kind++) {
+        uint32_t outcome = filled(remote_value, &of, &made);
+        tell(28, outcome);
+        bool is_known = of.kind >= GIX_REFSPEC_BRANCH && of.kind <= GIX_REFSPEC_MERGE_REQUESTS;
+        CHECK((outcome == GIX_REFSPEC_NO_OPERATION) == !is_known);
+        if (outcome == GIX_REFSPEC_OK) {
+            gix_refspec_instruction parts = GIX_REFSPEC_PARTS_INIT;
+            CHECK(gix_refspec_parts(made.bytes, made.len, GIX_REFSPEC_FETCH, &parts) == GIX_REFSPEC_OK);
+            CHECK(parts.kind == GIX_REFSPEC_FETCH_AND_UPDATE && parts.forced == 1);
+            CHECK(begins(parts.source, LITERAL("refs/")) && begins(parts.destination, LITERAL("refs/")));
+        }
+        free(made.all);
+    }
 }
 
 /* Lists of texts. */
@@ -557,6 +694,143 @@ static void check_matches(const input *given)
     free(lines.all);
 }
 
+/* Refs without ids are matched by fetches as their names are. Without any, no target is unknown. */
+
+static uint32_t matches_refs(const void *with, mapping *list, size_t list_room, uint8_t *bytes, size_t room, size_t *count,
+                             size_t *len)
+{
+    const of_match *of = with;
+    gix_refspec_spec specs[MOST];
+    gix_refspec_ref refs[MOST];
+    for (size_t at = 0; at < of->specs_count; at++)
+        specs[at] = (gix_refspec_spec){ of->specs[at], GIX_REFSPEC_FETCH };
+    for (size_t at = 0; at < of->names_count; at++)
+        refs[at] = (gix_refspec_ref){ of->names[at], { NULL, 0 }, { NULL, 0 } };
+    return gix_refspec_match_refs(specs, of->specs_count, refs, of->names_count, of->direction, list, list_room, bytes, room, count,
+                                  len);
+}
+
+static void check_refs(const of_match *of)
+{
+    mapped by_names, by_refs;
+    uint32_t outcome = listed(matches, of, &by_names);
+    bool is_empty = outcome == GIX_REFSPEC_NEEDS_IDS && of->names_count == 0;
+    CHECK(listed(matches_refs, of, &by_refs) == (is_empty ? GIX_REFSPEC_OK : outcome));
+    tell(29, outcome);
+    CHECK(by_refs.count == by_names.count && by_refs.bytes.len == by_names.bytes.len);
+    CHECK(memcmp(by_refs.all.bytes, by_names.all.bytes, by_names.all.len) == 0);
+    CHECK(memcmp(by_refs.bytes.bytes, by_names.bytes.bytes, by_names.bytes.len) == 0);
+    free_mapped(by_names);
+    free_mapped(by_refs);
+}
+
+/* Mappings between names: each is in conflict if another source has its destination, and the verdicts name the first. */
+
+static bool is_to_one(const gix_refspec_pair *one, const gix_refspec_pair *other)
+{
+    return one->has_destination && other->has_destination && is(one->destination, other->destination);
+}
+
+static bool is_from_one(const gix_refspec_pair *one, const gix_refspec_pair *other)
+{
+    return (one->source_is_id == 0) == (other->source_is_id == 0) && is(one->source, other->source);
+}
+
+static uint32_t check_verdict(const gix_refspec_pair *pairs, size_t count, size_t at, const gix_refspec_pair_verdict *verdict)
+{
+    size_t first = count;
+    bool is_contested = false;
+    for (size_t other = 0; other < count; other++) {
+        if (!is_to_one(&pairs[other], &pairs[at]))
+            continue;
+        first = other < first ? other : first;
+        for (size_t third = 0; third < other; third++)
+            is_contested |= is_to_one(&pairs[third], &pairs[at]) && !is_from_one(&pairs[third], &pairs[other]);
+    }
+    bool is_kept = !pairs[at].has_destination || begins(pairs[at].destination, LITERAL("refs/"))
+        || is(pairs[at].destination, LITERAL("HEAD"));
+    tell(31, verdict->verdict);
+    CHECK(verdict->first == (is_contested ? first : GIX_REFSPEC_NO_PAIR));
+    CHECK(verdict->verdict == (is_contested ? GIX_REFSPEC_PAIR_IN_CONFLICT : is_kept ? GIX_REFSPEC_PAIR_KEPT
+                               : GIX_REFSPEC_PAIR_REMOVED));
+    return is_contested ? GIX_REFSPEC_IN_CONFLICT : GIX_REFSPEC_OK;
+}
+
+static void check_pairs(const input *given)
+{
+    gix_refspec_pair pairs[2 * MOST];
+    size_t count = 0;
+    for (size_t at = 0; given->local_count > 0 && at < given->names_count; at++)
+        for (size_t step = 0; step < 2; step++)
+            pairs[count++] = (gix_refspec_pair){ given->names[at], given->local[(at + step) % given->local_count],
+                                                 (uint32_t)(at % 3 / 2), (uint32_t)(at % 5) };
+    buffer small = buffer_of(count > 0 ? (count - 1) * sizeof(gix_refspec_pair_verdict) : 0);
+    buffer all = buffer_of(count * sizeof(gix_refspec_pair_verdict));
+    if (count > 0)
+        CHECK(gix_refspec_validate(pairs, count, (gix_refspec_pair_verdict *)small.bytes, count - 1) == GIX_REFSPEC_TOO_SMALL);
+    check_untouched(small);
+    gix_refspec_pair_verdict *verdicts = (gix_refspec_pair_verdict *)all.bytes;
+    uint32_t outcome = gix_refspec_validate(pairs, count, verdicts, count), wanted = GIX_REFSPEC_OK;
+    check_guards(all);
+    for (size_t at = 0; at < count; at++) {
+        uint32_t one = check_verdict(pairs, count, at, &verdicts[at]);
+        wanted = one > wanted ? one : wanted;
+    }
+    tell(32, outcome);
+    CHECK(outcome == wanted);
+    free(small.all);
+    free(all.all);
+}
+
+/* Upstreams. */
+
+typedef struct {
+    const input *given;
+    text merge;
+    gix_refspec_upstream_ref told;
+} of_merge;
+
+static uint32_t upstream(const void *with, uint8_t *bytes, size_t room, size_t *len)
+{
+    of_merge *of = (of_merge *)with;
+    of->told = (gix_refspec_upstream_ref){ 9, 9, 9, *len };
+    uint32_t outcome = gix_refspec_upstream(of->given->configured, of->given->configured_count, of->merge.bytes, of->merge.len,
+                                            bytes, room, &of->told);
+    bool is_set = outcome == GIX_REFSPEC_OK || outcome == GIX_REFSPEC_TOO_SMALL;
+    CHECK(is_set || (of->told.kind == 9 && of->told.spec == 9 && of->told.excluded_by == 9));
+    *len = of->told.len;
+    return outcome;
+}
+
+/* The tracking ref is what the spec makes of the merged ref, if it has two patterns; what excludes is a negative spec. */
+static void check_upstream(const input *given, text merge)
+{
+    of_merge of = { given, merge, GIX_REFSPEC_UPSTREAM_INIT };
+    uint32_t refusal = refusal_of(given->configured, given->configured_count, GIX_REFSPEC_FETCH);
+    buffer name;
+    CHECK(filled(upstream, &of, &name) == refusal);
+    if (refusal == GIX_REFSPEC_OK) {
+        CHECK(upstream(&of, name.bytes, name.len, &name.len) == GIX_REFSPEC_OK);
+        tell(30, of.told.kind);
+        CHECK((of.told.spec == GIX_REFSPEC_NO_SPEC) == (of.told.kind == GIX_REFSPEC_NOT_FETCHED));
+        CHECK((of.told.excluded_by != GIX_REFSPEC_NO_SPEC) == (of.told.kind == GIX_REFSPEC_EXCLUDED));
+        CHECK(of.told.kind == GIX_REFSPEC_TRACKED || name.len == 0);
+        CHECK(of.told.kind == GIX_REFSPEC_NOT_FETCHED || of.told.spec < given->configured_count);
+        if (of.told.kind == GIX_REFSPEC_EXCLUDED) {
+            CHECK(of.told.excluded_by < given->configured_count);
+            CHECK(given->configured[of.told.excluded_by].bytes[0] == '^');
+        }
+        if (of.told.kind == GIX_REFSPEC_TRACKED && contains(given->configured[of.told.spec], '*')) {
+            of_one one = { given->configured[of.told.spec], merge, GIX_REFSPEC_FETCH, false };
+            buffer made;
+            CHECK(filled(made_name, &one, &made) == GIX_REFSPEC_OK);
+            CHECK(is((text){ made.bytes, made.len }, (text){ name.bytes, name.len }));
+            free(made.all);
+        }
+    }
+    free(name.all);
+}
+
 /* Plans, and stale refs. */
 
 static uint32_t plans(const void *with, mapping *list, size_t list_room, uint8_t *bytes, size_t room, size_t *count, size_t *len)
@@ -632,6 +906,87 @@ static void check_plan(const input *given)
     free_mapped(plan);
 }
 
+/* Effects. */
+
+typedef struct {
+    const input *given;
+    text name;
+    gix_refspec_effect effects[MOST];
+    size_t item;
+} of_name;
+
+static uint32_t why(const void *with, uint8_t *bytes, size_t room, size_t *len)
+{
+    of_name *of = (of_name *)with;
+    const input *given = of->given;
+    of->item = 9;
+    uint32_t outcome = gix_refspec_why(given->configured, given->configured_count, given->names, given->names_count, of->name.bytes,
+                                       of->name.len, of->effects, given->configured_count, bytes, room, &of->item, len);
+    CHECK(outcome == GIX_REFSPEC_OK || outcome == GIX_REFSPEC_TOO_SMALL || of->item == 9);
+    return outcome;
+}
+
+/* The verdict of a plan on a name by a configured spec, or 0 where it has none. */
+static uint32_t verdict_of(const input *given, const mapped *plan, size_t spec, text name)
+{
+    for (size_t at = 0; at < plan->count; at++) {
+        const mapping *one = &plan->list[at];
+        if (one->verdict != GIX_REFSPEC_MISSING && one->origin == GIX_REFSPEC_CONFIGURED && one->spec == spec
+            && one->item != GIX_REFSPEC_NO_ITEM && is(given->names[one->item], name))
+            return one->verdict;
+    }
+    return 0;
+}
+
+static void check_effect(const of_name *of, size_t at, buffer made, const mapped *plan)
+{
+    const gix_refspec_effect *one = &of->effects[at];
+    const input *given = of->given;
+    tell(33, one->fate * 8 + one->mismatch % 8);
+    CHECK(one->fate >= GIX_REFSPEC_FATE_UNMATCHED && one->fate <= GIX_REFSPEC_FATE_WRITTEN);
+    CHECK(one->mismatch <= GIX_REFSPEC_MISMATCH_EARLIER_CANDIDATE);
+    CHECK((one->mismatch != 0) == (one->fate == GIX_REFSPEC_FATE_UNMATCHED));
+    CHECK(one->made_len <= made.len && one->made_at <= made.len - one->made_len && (one->has_destination || one->made_len == 0));
+    CHECK(one->word_len <= of->name.len && one->word_at <= of->name.len - one->word_len);
+    const bool is_conflict = one->fate == GIX_REFSPEC_FATE_IN_CONFLICT || one->fate == GIX_REFSPEC_FATE_DIRECTORY_CONFLICT;
+    const bool is_excluded = one->fate == GIX_REFSPEC_FATE_EXCLUDED, is_duplicate = one->fate == GIX_REFSPEC_FATE_DUPLICATE;
+    CHECK(is_conflict || is_excluded || is_duplicate ? one->spec < given->configured_count : one->spec == GIX_REFSPEC_NO_SPEC);
+    CHECK(one->item == GIX_REFSPEC_NO_ITEM || is_conflict || one->mismatch == GIX_REFSPEC_MISMATCH_EARLIER_CANDIDATE);
+    CHECK(!is_duplicate || one->spec < at);
+    CHECK(!is_excluded || given->configured[one->spec].bytes[0] == '^');
+    if (of->item == GIX_REFSPEC_NO_ITEM)
+        return;
+    const uint32_t wanted = one->fate == GIX_REFSPEC_FATE_WRITTEN ? GIX_REFSPEC_WRITTEN
+        : one->fate == GIX_REFSPEC_FATE_IN_CONFLICT ? GIX_REFSPEC_CONTESTED
+        : is_conflict ? GIX_REFSPEC_DIRECTORY_CONFLICT : 0;
+    const uint32_t verdict = verdict_of(given, plan, at, of->name);
+    if (wanted != 0)
+        CHECK(verdict == wanted);
+    else
+        CHECK(verdict != GIX_REFSPEC_WRITTEN && verdict != GIX_REFSPEC_CONTESTED && verdict != GIX_REFSPEC_DIRECTORY_CONFLICT);
+}
+
+/* What a plan of the configured specs has of a name, each of them does with it. */
+static void check_effects(const input *given)
+{
+    input configured = *given;
+    configured.given_count = configured.merges_count = configured.tags = 0;
+    const uint32_t refusal = refusal_of(given->configured, given->configured_count, GIX_REFSPEC_FETCH);
+    mapped plan;
+    CHECK(is_answer(listed(plans, &configured, &plan)) == (refusal == GIX_REFSPEC_OK));
+    for (size_t at = 0; at < given->names_count + given->local_count; at++) {
+        of_name of = { .given = given };
+        of.name = at < given->names_count ? given->names[at] : given->local[at - given->names_count];
+        buffer made;
+        CHECK(filled(why, &of, &made) == refusal);
+        for (size_t spec = 0; refusal == GIX_REFSPEC_OK && spec < given->configured_count; spec++)
+            check_effect(&of, spec, made, &plan);
+        CHECK(refusal != GIX_REFSPEC_OK || at >= given->names_count || of.item <= at);
+        free(made.all);
+    }
+    free_mapped(plan);
+}
+
 static uint32_t stale_of(const input *given, gix_refspec_stale_ref *stale, size_t room, size_t *count)
 {
     return gix_refspec_stale(given->configured, given->configured_count, given->names, given->names_count, given->local,
@@ -672,8 +1027,8 @@ static void check_stale(const input *given)
 static void check_others(void)
 {
     text sentence = GIX_REFSPEC_TEXT_INIT;
-    for (uint32_t outcome = 0; outcome <= GIX_REFSPEC_INVALID_ID + 1; outcome++)
-        CHECK((gix_refspec_explanation(outcome, &sentence) == GIX_REFSPEC_OK) == (outcome <= GIX_REFSPEC_INVALID_ID));
+    for (uint32_t outcome = 0; outcome <= GIX_REFSPEC_OTHER_PARTS + 1; outcome++)
+        CHECK((gix_refspec_explanation(outcome, &sentence) == GIX_REFSPEC_OK) == (outcome <= GIX_REFSPEC_OTHER_PARTS));
     CHECK(gix_refspec_version(&sentence) == GIX_REFSPEC_OK && is(sentence, LITERAL(GIX_REFSPEC_VERSION)));
 }
 
@@ -731,6 +1086,34 @@ static void check_texts(const text *specs, size_t count, const input *given, uin
     }
 }
 
+/* The upstreams of all merged refs and names. */
+static void check_merges(const input *given)
+{
+    for (size_t at = 0; at < given->merges_count; at++)
+        check_upstream(given, given->merges[at]);
+    for (size_t at = 0; at < given->names_count; at++)
+        check_upstream(given, given->names[at]);
+}
+
+/* Given specs are sources, and local refs are destinations; names of refs are those of remotes and branches too. */
+static void check_parts(const input *given)
+{
+    for (size_t at = 0; at < given->given_count; at++) {
+        for (uint32_t mode = GIX_REFSPEC_NORMAL; mode <= GIX_REFSPEC_NEGATIVE; mode++) {
+            const text destination = given->local_count > 0 ? given->local[at % given->local_count] : (text){ NULL, 0 };
+            for (uint32_t operation = GIX_REFSPEC_FETCH; operation <= GIX_REFSPEC_PUSH; operation++) {
+                check_sides(given->given[at], (text){ NULL, 0 }, mode, operation);
+                check_sides(given->given[at], destination, mode, operation);
+            }
+        }
+    }
+    for (size_t at = 0; at < given->configured_count; at++) {
+        const text name = given->names_count > 0 ? given->names[at % given->names_count] : LITERAL("origin");
+        check_remote((of_remote){ given->configured[at], LITERAL("origin"), name, 0 });
+        check_remote((of_remote){ given->configured[at], name, LITERAL("*"), 0 });
+    }
+}
+
 int LLVMFuzzerTestOneInput(const uint8_t *data, size_t size)
 {
     input given = { .tags = 0 };
@@ -753,8 +1136,16 @@ int LLVMFuzzerTestOneInput(const uint8_t *data, size_t size)
         free(lines.all);
     }
     check_matches(&given);
+    for (uint32_t direction = GIX_REFSPEC_FORWARD; direction <= GIX_REFSPEC_BACKWARD; direction++) {
+        of_match of = { given.configured, given.names, given.configured_count, given.names_count, direction };
+        check_refs(&of);
+    }
+    check_pairs(&given);
+    check_merges(&given);
+    check_parts(&given);
     check_plan(&given);
     check_stale(&given);
+    check_effects(&given);
     check_others();
     free_all(given.given, given.given_count);
     free_all(given.configured, given.configured_count);

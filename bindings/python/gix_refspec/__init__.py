@@ -1,5 +1,5 @@
-"""Parses, prints, compares and matches Git refspecs, lists the ref prefixes to request from a server, plans fetches, and
-finds stale refs, by libgix_refspec.
+"""Parses, prints, compares and matches Git refspecs, lists the ref prefixes to request from a server, plans fetches, tells why a
+ref is fetched or not, and finds stale refs, upstreams and the fetch values of remotes, by libgix_refspec.
 
 A text is bytes-like (`bytes`, `bytearray` or `memoryview`), or a `str` that is encoded as UTF-8 with `surrogateescape`, as
 `os.fsencode` does. What is returned is `bytes`.
@@ -15,9 +15,10 @@ from dataclasses import dataclass
 from typing import Callable, Iterable, List, Optional, Tuple, Union
 
 __version__ = "0.3.0"
-__all__ = ["Direction", "Kind", "Mapping", "Mode", "Operation", "Origin", "OriginKind", "Outcome", "Plan", "RefspecError",
-           "Side", "Sides", "Spec", "StaleRef", "Update", "Verdict", "compare", "explanation", "library_version", "matches",
-           "parse", "plan", "prefixes", "read", "stale"]
+__all__ = ["Direction", "Effect", "Effects", "Fate", "Kind", "Mapping", "Mismatch", "Mode", "Operation", "Origin", "OriginKind",
+           "Outcome", "Plan", "RefspecError", "RemoteValue", "Side", "Sides", "Spec", "StaleRef", "Update", "Upstream",
+           "UpstreamKind", "Validity", "Verdict", "compare", "explanation", "from_parts", "library_version", "matches", "parse",
+           "plan", "prefetched", "prefixes", "read", "remote_value", "renamed", "stale", "upstream", "validate", "why"]
 
 # The soname, so that no library is loaded that this module wasn't written for.
 _SONAME = "libgix_refspec.so.0.3"
@@ -59,6 +60,7 @@ class Outcome(enum.IntEnum):
     IN_CONFLICT = 22
     MISSING_SOURCE = 23
     INVALID_ID = 24
+    OTHER_PARTS = 25
 
 
 class Mode(enum.IntEnum):
@@ -120,6 +122,100 @@ class Verdict(enum.IntEnum):
     CONTESTED = 5
     OVERRULED = 6
     DIRECTORY_CONFLICT = 8
+
+
+# Of these two the library for C has the numbers under longer names.
+_FATE_UNMATCHED = 1
+_FATE_EXCLUDES = 2
+_FATE_EXCLUDED = 3
+_FATE_INVALID_NAME = 4
+_FATE_INVALID_DESTINATION = 5
+_FATE_DUPLICATE = 6
+_FATE_IN_CONFLICT = 7
+_FATE_DIRECTORY_CONFLICT = 8
+_FATE_WRITTEN = 9
+_MISMATCH_NO_SOURCE = 1
+_MISMATCH_PREFIX = 2
+_MISMATCH_SUFFIX = 3
+_MISMATCH_OVERLAP = 4
+_MISMATCH_OTHER_NAME = 5
+_MISMATCH_OBJECT = 6
+_MISMATCH_NO_CANDIDATE = 7
+_MISMATCH_EARLIER_CANDIDATE = 8
+
+
+class Fate(enum.IntEnum):
+    """What becomes of a ref by one spec: the first of these that applies.
+
+    UNMATCHED: the source doesn't match the name, for the reason in mismatch.
+    EXCLUDES: the spec is negative, and excludes the ref.
+    EXCLUDED: the first negative spec that does excludes the ref.
+    INVALID_NAME: the name isn't a valid ref name, so a fetch leaves it out.
+    INVALID_DESTINATION: the destination isn't a valid name below refs/, so a fetch leaves it out.
+    DUPLICATE: an earlier spec, the first that does, maps the ref to the same destination.
+    IN_CONFLICT: another source has the same destination, so nothing is fetched.
+    DIRECTORY_CONFLICT: another source has a directory of the destination, or the other way round: Git writes one of both.
+    WRITTEN: it is fetched, and written to its destination if there is one.
+    """
+    UNMATCHED = _FATE_UNMATCHED
+    EXCLUDES = _FATE_EXCLUDES
+    EXCLUDED = _FATE_EXCLUDED
+    INVALID_NAME = _FATE_INVALID_NAME
+    INVALID_DESTINATION = _FATE_INVALID_DESTINATION
+    DUPLICATE = _FATE_DUPLICATE
+    IN_CONFLICT = _FATE_IN_CONFLICT
+    DIRECTORY_CONFLICT = _FATE_DIRECTORY_CONFLICT
+    WRITTEN = _FATE_WRITTEN
+
+
+class Mismatch(enum.IntEnum):
+    """Why a source doesn't match a name.
+
+    NO_SOURCE: there is none.
+    PREFIX: the name doesn't begin with the pattern's prefix; count says how many bytes agree.
+    SUFFIX: it does, but doesn't end with the suffix; count says how many of the last bytes agree.
+    OVERLAP: it does both, but the two would overlap.
+    OTHER_NAME: the source is another name.
+    OBJECT: it is an object id.
+    NO_CANDIDATE: it is a partial name, of which the name is no candidate.
+    EARLIER_CANDIDATE: the name is one, but the item is an earlier one, and so the spec takes that.
+    """
+    NO_SOURCE = _MISMATCH_NO_SOURCE
+    PREFIX = _MISMATCH_PREFIX
+    SUFFIX = _MISMATCH_SUFFIX
+    OVERLAP = _MISMATCH_OVERLAP
+    OTHER_NAME = _MISMATCH_OTHER_NAME
+    OBJECT = _MISMATCH_OBJECT
+    NO_CANDIDATE = _MISMATCH_NO_CANDIDATE
+    EARLIER_CANDIDATE = _MISMATCH_EARLIER_CANDIDATE
+
+
+class UpstreamKind(enum.IntEnum):
+    """What an upstream is, or why there is none.
+
+    TRACKED: the spec, the first that can, stores the merged ref in the one that the upstream names.
+    EXCLUDED: excluded_by excludes the merged ref, as Git looks for that, from the spec.
+    NOT_STORED: the spec, the first that does, fetches the merged ref, and none stores it.
+    NOT_FETCHED: no positive spec fetches the merged ref.
+    """
+    TRACKED = 1
+    EXCLUDED = 2
+    NOT_STORED = 3
+    NOT_FETCHED = 4
+
+
+class RemoteValue(enum.IntEnum):
+    """A value of remote.<name>.fetch that Git writes, or one for reviews.
+
+    BRANCH: +refs/heads/<branch>:refs/remotes/<remote>/<branch>, as after `git remote add`.
+    MIRROR: +refs/<branch>:refs/<branch>, as after `git remote add --mirror=fetch`.
+    PULL_REQUESTS: those of GitHub, to refs/remotes/<remote>/pr/.
+    MERGE_REQUESTS: those of GitLab, to refs/remotes/<remote>/merge-requests/.
+    """
+    BRANCH = 1
+    MIRROR = 2
+    PULL_REQUESTS = 3
+    MERGE_REQUESTS = 4
 
 
 class RefspecError(ValueError):
@@ -212,6 +308,14 @@ class Mapping:
 
 
 @dataclass(frozen=True)
+class Validity:
+    """What becomes of a mapping: whether it is kept; and in a conflict, the index of the first mapping to its destination.
+    One that is neither kept nor in a conflict is removed, as its destination neither begins with refs/ nor is HEAD."""
+    is_kept: bool
+    first: Optional[int] = None
+
+
+@dataclass(frozen=True)
 class Origin:
     """What makes an update, and its index among the given specs, the configured ones or the merged refs: None for DEFAULT
     and ALL_TAGS."""
@@ -252,6 +356,38 @@ class StaleRef:
     kept_by: Optional[int] = None
 
 
+@dataclass(frozen=True)
+class Effect:
+    """What a spec does with a ref: what becomes of it; the local ref that the spec maps it to, written or not; and what decides
+    that: why the source doesn't match; the part of the name that the star of a pattern that excludes it stands for; the indexes
+    of another spec and another name, None for an object; and how many bytes agree. What doesn't decide it is None."""
+    fate: Fate
+    destination: Optional[bytes] = None
+    mismatch: Optional[Mismatch] = None
+    word: Optional[bytes] = None
+    spec: Optional[int] = None
+    item: Optional[int] = None
+    count: Optional[int] = None
+
+
+@dataclass(frozen=True)
+class Effects:
+    """What specs do with a ref: the index of its name, None if the remote lacks it; and the effect of each spec, or the one that
+    it would have."""
+    item: Optional[int]
+    of_specs: Tuple[Effect, ...]
+
+
+@dataclass(frozen=True)
+class Upstream:
+    """The upstream of a branch, or why it has none: the index of a spec, None at NOT_FETCHED; that of the negative spec that
+    excludes the merged ref, None at all but EXCLUDED; and the tracking ref, None at all but TRACKED."""
+    kind: UpstreamKind
+    spec: Optional[int] = None
+    excluded_by: Optional[int] = None
+    name: Optional[bytes] = None
+
+
 def parse(text: Text, operation: Operation) -> Spec:
     """Parses a text. Raises RefspecError if it isn't a refspec, and ValueError if there is no such operation.
 
@@ -289,6 +425,29 @@ def read(text: Text, operation: Operation) -> Sides:
                  sides.destination.value() if sides.has_destination else None)
 
 
+def from_parts(sides: Sides, operation: Operation) -> bytes:
+    """The canonical text of the refspec with this mode and these sides: that of a text of the sign, the source, and a colon and
+    the destination if there is one. Raises RefspecError, with OTHER_PARTS if that text has another mode or other sides.
+
+    >>> from_parts(Sides(Mode.FORCED, b"main", b"refs/x"), Operation.FETCH)
+    b'+main:refs/x'
+    """
+    source, destination = _encoded(sides.source or b""), _encoded(sides.destination or b"")
+    given = _GivenSides(Mode(sides.mode), int(sides.source is not None), int(sides.destination is not None),
+                        _Text(source, len(source)), _Text(destination, len(destination)))
+    return _filled(_library.gix_refspec_from_parts, ctypes.byref(given), Operation(operation))
+
+
+def remote_value(value: RemoteValue, remote: Text = b"", branch: Text = b"*") -> bytes:
+    """The canonical text of a value of remote.<name>.fetch: for all branches, if none is given. The branch doesn't count for
+    reviews, and the remote not for a mirror. Raises RefspecError as `from_parts` does.
+
+    >>> remote_value(RemoteValue.BRANCH, "origin")
+    b'+refs/heads/*:refs/remotes/origin/*'
+    """
+    return _filled(_library.gix_refspec_remote_value, RemoteValue(value), *_bytes(remote), *_bytes(branch))
+
+
 def compare(a: Text, b: Text, operation: Operation) -> int:
     """How two texts compare as refspecs: -1, 0 or 1; 0 exactly if their canonical texts are equal.
 
@@ -318,6 +477,25 @@ def matches(fetches: Fetches, names: Iterable[Text], direction: Direction) -> Li
     items = _items(names)
     told, text = _listed(_library.gix_refspec_match, len(items), *_texts(_fetches(fetches)), *_texts(items), direction)
     return [_mapping(one, items, text, direction) for one in told]
+
+
+def validate(mappings: Iterable[Mapping]) -> List[Validity]:
+    """What becomes of mappings, such as those of `matches` that were changed: they are in conflict if another source has their
+    destination. Whether names are valid isn't checked.
+
+    >>> found = matches(["refs/heads/*:refs/x/*", "b:refs/x/a"], ["refs/heads/a", "refs/heads/b"], Direction.FORWARD)
+    >>> [one.first for one in validate(found)]
+    [0, None, 0]
+    """
+    sides = [(one.source, one.destination, one.item is None) for one in mappings]
+    pairs = (_Pair * max(1, len(sides)))(*(
+        _Pair(_Text(source, len(source)), _Text(destination or b"", len(destination or b"")), int(is_id),
+              int(destination is not None)) for source, destination, is_id in sides))
+    told = (_PairVerdict * max(1, len(sides)))()
+    outcome = _library.gix_refspec_validate(pairs, len(sides), told, len(sides))
+    if outcome not in (Outcome.OK, Outcome.IN_CONFLICT):
+        raise RefspecError(outcome)
+    return [Validity(one.verdict == _PAIR_KEPT, _index(one.first)) for one in told[:len(sides)]]
 
 
 def plan(given: Fetches, names: Iterable[Text], configured: Fetches = (), merges: Iterable[Text] = (),
@@ -361,6 +539,70 @@ def stale(fetches: Fetches, remote: Iterable[Text], local: Iterable[Text]) -> Li
         room = count.value
 
 
+def why(fetches: Fetches, names: Iterable[Text], name: Text) -> Effects:
+    """What each of some fetches, texts or specs, does with the ref of one name, if the remote has these names, and so why it is
+    fetched or not. Raises RefspecError if a text isn't a refspec.
+
+    >>> [one.fate.name for one in why(["refs/heads/*:refs/x/*", "^refs/heads/a"], ["refs/heads/a"], "refs/heads/a").of_specs]
+    ['EXCLUDED', 'EXCLUDES']
+    """
+    texts, encoded = _fetches(fetches), _encoded(name)
+    given = (*_texts(texts), *_texts(_items(names)), *_bytes(encoded))
+    effects, room = (_Effect * max(1, len(texts)))(), 256
+    item, size = ctypes.c_size_t(), ctypes.c_size_t()
+    while True:
+        buffer = ctypes.create_string_buffer(room)
+        outcome = _library.gix_refspec_why(*given, effects, len(texts), buffer, room, ctypes.byref(item), ctypes.byref(size))
+        if outcome != Outcome.TOO_SMALL:
+            break
+        room = size.value
+    _check(outcome)
+    return Effects(_index(item.value), tuple(_effect(one, encoded, buffer.raw) for one in effects[:len(texts)]))
+
+
+def upstream(fetches: Fetches, merge: Text) -> Upstream:
+    """The upstream of a branch that merges a ref, by the fetches of its remote, texts or specs: what `git rev-parse` makes of
+    <branch>@{upstream}. `merge` is the first value of branch.<name>.merge. Git compares sides as they are written: main isn't
+    refs/heads/main here. Raises RefspecError if a text isn't a refspec.
+
+    >>> upstream(["+refs/heads/*:refs/remotes/origin/*"], "refs/heads/main").name
+    b'refs/remotes/origin/main'
+    """
+    told, room, given = _UpstreamRef(), 256, (*_texts(_fetches(fetches)), *_bytes(merge))
+    while True:
+        buffer = ctypes.create_string_buffer(room)
+        outcome = _library.gix_refspec_upstream(*given, buffer, room, ctypes.byref(told))
+        if outcome != Outcome.TOO_SMALL:
+            break
+        room = told.len
+    _check(outcome)
+    kind = UpstreamKind(told.kind)
+    name = buffer.raw[:told.len] if kind == UpstreamKind.TRACKED else None
+    return Upstream(kind, _index(told.spec), _index(told.excluded_by), name)
+
+
+def prefetched(fetch: Union[Text, Spec]) -> Optional[bytes]:
+    """The canonical text of what `git fetch --prefetch` applies in place of a fetch, a text or a spec: of a negative one as it
+    is, and of one that stores refs forced and below refs/prefetch/. None if it ignores the fetch, as that stores nothing, or
+    its source begins with refs/tags/. Raises RefspecError if the text isn't a refspec.
+
+    >>> prefetched("refs/heads/*:refs/remotes/origin/*")
+    b'+refs/heads/*:refs/prefetch/remotes/origin/*'
+    """
+    text, = _fetches([fetch])
+    return _filled(_library.gix_refspec_prefetched, *_bytes(text)) or None
+
+
+def renamed(value: Text, old_name: Text, new_name: Text) -> Optional[bytes]:
+    """What `git remote rename` makes of a value of remote.<old_name>.fetch: the first :refs/remotes/<old_name>/ in it gets the
+    new name. None if the value doesn't have that: Git then leaves it. Neither the value nor the names are checked.
+
+    >>> renamed("+refs/heads/*:refs/remotes/origin/*", "origin", "up")
+    b'+refs/heads/*:refs/remotes/up/*'
+    """
+    return _filled(_library.gix_refspec_renamed, *_bytes(value), *_bytes(old_name), *_bytes(new_name)) or None
+
+
 def explanation(outcome: int) -> Optional[str]:
     """The sentence for an outcome. None for a number that is no outcome of the library.
 
@@ -379,6 +621,10 @@ def library_version() -> str:
 
 
 _OUTCOMES = frozenset(Outcome)
+# What becomes of a mapping that is validated.
+_PAIR_KEPT = 1
+_PAIR_REMOVED = 2
+_PAIR_IN_CONFLICT = 3
 # The verdict on a spec whose source is missing, and the index of what isn't there.
 _MISSING = 7
 _NO_INDEX = ctypes.c_size_t(-1).value
@@ -407,6 +653,32 @@ class _Parts(ctypes.Structure):
 class _Sides(ctypes.Structure):
     _fields_ = [("mode", ctypes.c_uint32), ("has_source", ctypes.c_uint32), ("has_destination", ctypes.c_uint32),
                 ("source", _Told), ("destination", _Told)]
+
+
+class _GivenSides(ctypes.Structure):
+    _fields_ = [("mode", ctypes.c_uint32), ("has_source", ctypes.c_uint32), ("has_destination", ctypes.c_uint32),
+                ("source", _Text), ("destination", _Text)]
+
+
+class _Pair(ctypes.Structure):
+    _fields_ = [("source", _Text), ("destination", _Text), ("source_is_id", ctypes.c_uint32),
+                ("has_destination", ctypes.c_uint32)]
+
+
+class _PairVerdict(ctypes.Structure):
+    _fields_ = [("verdict", ctypes.c_uint32), ("first", ctypes.c_size_t)]
+
+
+class _UpstreamRef(ctypes.Structure):
+    _fields_ = [("kind", ctypes.c_uint32), ("spec", ctypes.c_size_t), ("excluded_by", ctypes.c_size_t),
+                ("len", ctypes.c_size_t)]
+
+
+class _Effect(ctypes.Structure):
+    _fields_ = [("fate", ctypes.c_uint32), ("mismatch", ctypes.c_uint32), ("has_destination", ctypes.c_uint32),
+                ("has_word", ctypes.c_uint32), ("spec", ctypes.c_size_t), ("item", ctypes.c_size_t), ("count", ctypes.c_size_t),
+                ("word_at", ctypes.c_size_t), ("word_len", ctypes.c_size_t), ("made_at", ctypes.c_size_t),
+                ("made_len", ctypes.c_size_t)]
 
 
 class _Span(ctypes.Structure):
@@ -473,6 +745,7 @@ def _declare(library: ctypes.CDLL) -> None:
     for name, types in (
             ("parts", [*one, number, ctypes.POINTER(_Parts)]),
             ("read", [*one, number, ctypes.POINTER(_Sides)]),
+            ("from_parts", [ctypes.POINTER(_GivenSides), number, text, size, sizes]),
             ("locate", [*one, number, ctypes.POINTER(_Span)]),
             ("canonical", [*one, number, text, size, sizes]),
             ("compare", [*one, *one, number, ctypes.POINTER(ctypes.c_int32)]),
@@ -480,8 +753,14 @@ def _declare(library: ctypes.CDLL) -> None:
             ("map_back", [*one, number, *one, text, size, ctypes.POINTER(_Made)]),
             ("prefixes", [*many, number, text, size, sizes]),
             ("match", [*many, *many, number, *lists]),
+            ("validate", [ctypes.POINTER(_Pair), size, ctypes.POINTER(_PairVerdict), size]),
             ("plan", [ctypes.POINTER(_Wish), *many, *lists]),
             ("stale", [*many, *many, *many, ctypes.POINTER(_StaleRef), size, sizes]),
+            ("why", [*many, *many, *one, ctypes.POINTER(_Effect), size, text, size, sizes, sizes]),
+            ("upstream", [*many, *one, text, size, ctypes.POINTER(_UpstreamRef)]),
+            ("prefetched", [*one, text, size, sizes]),
+            ("renamed", [*one, *one, *one, text, size, sizes]),
+            ("remote_value", [number, *one, *one, text, size, sizes]),
             ("explanation", [number, ctypes.POINTER(_Told)])):
         call = getattr(library, f"gix_refspec_{name}")
         call.argtypes, call.restype = types, number
@@ -584,6 +863,14 @@ def _listed(call: Callable[..., int], items: int, *given: object) -> "Tuple[List
 
 def _index(number: int) -> Optional[int]:
     return None if number == _NO_INDEX else number
+
+
+def _effect(one: _Effect, name: bytes, text: bytes) -> Effect:
+    mismatch = Mismatch(one.mismatch) if one.mismatch else None
+    return Effect(
+        Fate(one.fate), text[one.made_at:one.made_at + one.made_len] if one.has_destination else None, mismatch,
+        name[one.word_at:one.word_at + one.word_len] if one.has_word else None, _index(one.spec), _index(one.item),
+        one.count if mismatch in (Mismatch.PREFIX, Mismatch.SUFFIX) else None)
 
 
 def _sides(one: _Mapping, names: List[bytes], text: bytes) -> Tuple[Optional[int], bytes, bytes]:

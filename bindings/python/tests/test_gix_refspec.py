@@ -12,9 +12,10 @@ import unittest
 from typing import Callable
 
 import gix_refspec
-from gix_refspec import (Direction, Kind, Mapping, Mode, Operation, Origin, OriginKind, Outcome, Plan, RefspecError, Side,
-                         Sides, StaleRef, Update, Verdict, compare, explanation, library_version, matches, parse, plan,
-                         prefixes, read, stale)
+from gix_refspec import (Direction, Effect, Effects, Fate, Kind, Mapping, Mismatch, Mode, Operation, Origin, OriginKind, Outcome,
+                         Plan, RefspecError, RemoteValue, Side, Sides, StaleRef, Update, Upstream, UpstreamKind, Validity,
+                         Verdict, compare, explanation, from_parts, library_version, matches, parse, plan, prefetched, prefixes,
+                         read, remote_value, renamed, stale, upstream, validate, why)
 
 
 class Lying(bytes):
@@ -64,6 +65,67 @@ class Calls(unittest.TestCase):
         self.assertEqual(read("^a", Operation.FETCH), Sides(Mode.NEGATIVE, b"a", None))
         with self.assertRaises(RefspecError):
             read("a b", Operation.FETCH)
+
+    def test_sides_make_the_text_that_has_them(self) -> None:
+        for text, operation in (("+:d", Operation.PUSH), ("main", Operation.PUSH), ("^a", Operation.FETCH),
+                                ("+a*:b*", Operation.FETCH), ("", Operation.FETCH)):
+            made = from_parts(read(text, operation), operation)
+            self.assertEqual(made, parse(text, operation).canonical)
+        self.assertEqual(from_parts(Sides(Mode.FORCED, None, b""), Operation.PUSH), b"+:")
+        self.refuses(Outcome.OTHER_PARTS, "The source begins with a sign, or the last part has a colon in it.", from_parts,
+                     Sides(Mode.NORMAL, b"^a", None), Operation.FETCH)
+        self.refuses(Outcome.NAME_REPEATED_DOT, "A ref name must not have two dots in a row.", from_parts,
+                     Sides(Mode.NEGATIVE, b"a..b", None), Operation.FETCH)
+
+    def test_values_of_remotes(self) -> None:
+        for value, words, text in (
+                (RemoteValue.BRANCH, ("up", "main"), b"+refs/heads/main:refs/remotes/up/main"),
+                (RemoteValue.MIRROR, (), b"+refs/*:refs/*"),
+                (RemoteValue.PULL_REQUESTS, ("up",), b"+refs/pull/*/head:refs/remotes/up/pr/*"),
+                (RemoteValue.MERGE_REQUESTS, ("up",), b"+refs/merge-requests/*/head:refs/remotes/up/merge-requests/*")):
+            self.assertEqual(remote_value(value, *words), text)
+        self.refuses(Outcome.OTHER_PARTS, "The source begins with a sign, or the last part has a colon in it.", remote_value,
+                     RemoteValue.BRANCH, "a:b")
+        self.assertIsNone(renamed("^refs/remotes/origin/a", "origin", "up"))
+        self.assertIsNone(prefetched("refs/tags/*:refs/tags/*"))
+        self.assertEqual(prefetched(parse("^a", Operation.FETCH)), b"^a")
+        with self.assertRaises(ValueError):
+            prefetched(parse("a", Operation.PUSH))
+
+    def test_mappings_are_validated(self) -> None:
+        made = [Mapping(0, 0, b"a", b"refs/x"), Mapping(0, 1, b"b", b"y"), Mapping(0, None, b"a", b"refs/x"),
+                Mapping(0, 0, b"b", None)]
+        self.assertEqual(validate(made), [Validity(False, 0), Validity(False), Validity(False, 0), Validity(True)])
+        self.assertEqual(validate(made[:2]), [Validity(True), Validity(False)])
+        self.assertEqual(validate([]), [])
+
+    def test_effects_on_a_ref(self) -> None:
+        names = ["refs/heads/a", "refs/heads/b", "refs/tags/a", "refs/heads/d/e"]
+        for texts, name, effects in (
+                (["a:refs/x/a", "refs/heads/*:refs/x/*", "^refs/heads/b"], "refs/heads/a",
+                 Effects(0, (Effect(Fate.UNMATCHED, mismatch=Mismatch.EARLIER_CANDIDATE, item=2),
+                             Effect(Fate.IN_CONFLICT, b"refs/x/a", spec=0, item=2),
+                             Effect(Fate.UNMATCHED, mismatch=Mismatch.OTHER_NAME)))),
+                (["refs/heads/*:refs/x/*", "^refs/heads/*"], "refs/heads/gone",
+                 Effects(None, (Effect(Fate.EXCLUDED, b"refs/x/gone", word=b"gone", spec=1), Effect(Fate.EXCLUDES, word=b"gone")))),
+                (["refs/tags/*:refs/x/*", "1" * 40], "refs/heads/a",
+                 Effects(0, (Effect(Fate.UNMATCHED, mismatch=Mismatch.PREFIX, count=5),
+                             Effect(Fate.UNMATCHED, mismatch=Mismatch.OBJECT)))),
+                (["refs/heads/a:" + "x" * 300] * 2, "refs/heads/a",
+                 Effects(0, (Effect(Fate.WRITTEN, b"refs/heads/" + b"x" * 300),
+                             Effect(Fate.DUPLICATE, b"refs/heads/" + b"x" * 300, spec=0)))),
+                ([], "refs/heads/a", Effects(0, ()))):
+            self.assertEqual(why(texts, names, name), effects)
+        self.refuses(Outcome.NEGATIVE_EMPTY, "A refspec that begins with `^` needs a source after the `^`.", why, ["^"], [], "a")
+
+    def test_upstreams(self) -> None:
+        for texts, wanted in (
+                (["refs/heads/a:x", "^refs/heads/a"], Upstream(UpstreamKind.EXCLUDED, 0, 1)),
+                (["refs/heads/b:x", "refs/heads/a"], Upstream(UpstreamKind.NOT_STORED, 1)),
+                (["a:x"], Upstream(UpstreamKind.NOT_FETCHED)),
+                (["refs/heads/*:" + "x" * 300 + "/*"], Upstream(UpstreamKind.TRACKED, 0, None, b"x" * 300 + b"/a"))):
+            self.assertEqual(upstream(texts, "refs/heads/a"), wanted)
+        self.refuses(Outcome.NEGATIVE_EMPTY, "A refspec that begins with `^` needs a source after the `^`.", upstream, ["^"], "a")
 
     def test_texts_are_bytes_or_utf_8(self) -> None:
         for text in ("main", "\u00e9t\u00e9", "\udce9", "\U0001f600"):
@@ -186,7 +248,7 @@ class Calls(unittest.TestCase):
     def test_explanations(self) -> None:
         for outcome in Outcome:
             self.assertTrue(explanation(outcome).endswith("."), outcome)
-        self.assertEqual([explanation(number) for number in (-1, 25, 2 ** 32)], [None] * 3)
+        self.assertEqual([explanation(number) for number in (-1, 26, 2 ** 32)], [None] * 3)
 
     def test_versions(self) -> None:
         self.assertEqual(library_version(), gix_refspec.__version__)

@@ -1,4 +1,5 @@
-/* Git refspecs: checked, taken apart, printed, compared, matched and explained; plans of fetches, and stale refs.
+/* Git refspecs: checked, taken apart, printed, compared, matched and explained; plans of fetches, stale refs,
+ * upstreams, and the fetch values of remotes.
  *
  * Each call returns GIX_REFSPEC_OK, or why it failed. A text is a pointer and a length; the pointer may be NULL if the
  * length is 0. The caller owns all memory. Nothing is kept from call to call. What a call doesn't set is unchanged.
@@ -34,7 +35,7 @@ enum {
     GIX_REFSPEC_NAME_REFLOG_PORTION = 14, GIX_REFSPEC_NAME_ASTERISK = 15, GIX_REFSPEC_NAME_INVALID_BYTE = 16,
     GIX_REFSPEC_NO_LIST = 17, GIX_REFSPEC_TOO_SMALL = 18, GIX_REFSPEC_NO_MEMORY = 19,
     GIX_REFSPEC_NO_OPERATION = 20, GIX_REFSPEC_NEEDS_IDS = 21, GIX_REFSPEC_IN_CONFLICT = 22,
-    GIX_REFSPEC_MISSING_SOURCE = 23, GIX_REFSPEC_INVALID_ID = 24
+    GIX_REFSPEC_MISSING_SOURCE = 23, GIX_REFSPEC_INVALID_ID = 24, GIX_REFSPEC_OTHER_PARTS = 25
 };
 
 /* Kinds of instructions. */
@@ -159,6 +160,90 @@ typedef struct {
     size_t item, kept_by;
 } gix_refspec_stale_ref;
 
+/* A mapping that a caller validates: a source, which is a ref name, or an id in one spelling, and a destination.
+ * source_is_id and has_destination: any number but 0 is yes. */
+typedef struct {
+    gix_refspec_text source, destination;
+    uint32_t source_is_id, has_destination;
+} gix_refspec_pair;
+
+/* What becomes of it. */
+enum {
+    GIX_REFSPEC_PAIR_KEPT = 1,
+    GIX_REFSPEC_PAIR_REMOVED = 2,    /* the destination neither begins with refs/ nor is HEAD */
+    GIX_REFSPEC_PAIR_IN_CONFLICT = 3 /* another source has the same destination */
+};
+
+/* The verdict on it. first is the index of the first mapping to its destination, which all in one conflict have, and
+ * NO_PAIR at the other verdicts. */
+typedef struct {
+    uint32_t verdict;
+    size_t first;
+} gix_refspec_pair_verdict;
+#define GIX_REFSPEC_NO_PAIR SIZE_MAX
+
+/* What becomes of a ref by one spec: the first of these that applies, in this order. */
+enum {
+    GIX_REFSPEC_FATE_UNMATCHED = 1,           /* the source doesn't match the name, for the reason in mismatch */
+    GIX_REFSPEC_FATE_EXCLUDES = 2,            /* the spec is negative, and excludes the ref */
+    GIX_REFSPEC_FATE_EXCLUDED = 3,            /* spec, the first negative one that does, excludes the ref */
+    GIX_REFSPEC_FATE_INVALID_NAME = 4,        /* left out: the name isn't a valid ref name */
+    GIX_REFSPEC_FATE_INVALID_DESTINATION = 5, /* left out: the destination isn't a valid name below refs/ */
+    GIX_REFSPEC_FATE_DUPLICATE = 6,           /* spec, the first that does, maps the ref to this destination too */
+    GIX_REFSPEC_FATE_IN_CONFLICT = 7,         /* spec maps item to the same destination, so nothing is fetched */
+    GIX_REFSPEC_FATE_DIRECTORY_CONFLICT = 8,  /* spec maps item to a directory of the destination, or the other way round */
+    GIX_REFSPEC_FATE_WRITTEN = 9              /* fetched, and written to its destination if there is one */
+};
+
+/* Why a source doesn't match a name. */
+enum {
+    GIX_REFSPEC_MISMATCH_NO_SOURCE = 1,
+    GIX_REFSPEC_MISMATCH_PREFIX = 2,           /* the name doesn't begin with the pattern's prefix: count bytes agree */
+    GIX_REFSPEC_MISMATCH_SUFFIX = 3,           /* it does, but doesn't end with the suffix: the last count bytes agree */
+    GIX_REFSPEC_MISMATCH_OVERLAP = 4,          /* it does both, but the two would overlap */
+    GIX_REFSPEC_MISMATCH_OTHER_NAME = 5,
+    GIX_REFSPEC_MISMATCH_OBJECT = 6,           /* the source is an object id */
+    GIX_REFSPEC_MISMATCH_NO_CANDIDATE = 7,     /* it is a partial name, of which the name is no candidate */
+    GIX_REFSPEC_MISMATCH_EARLIER_CANDIDATE = 8 /* the name is one, but item is an earlier one, and so the spec takes that */
+};
+
+/* What a spec does with a ref.
+ *   mismatch           0 but at UNMATCHED
+ *   has_word           1 if a pattern excludes the ref, at EXCLUDES and EXCLUDED, else 0
+ *   spec               the index of the other spec at EXCLUDED, DUPLICATE and conflicts, else NO_SPEC
+ *   item               that of the other name at conflicts and EARLIER_CANDIDATE, else NO_ITEM, also for an object
+ *   count              how many bytes agree, at PREFIX and SUFFIX, else 0
+ *   word_at, word_len  the part of the name for which the pattern's star stands, if has_word is 1, else 0
+ *   made_at, made_len  the offset and length of the destination in the buffer, if has_destination is 1 */
+typedef struct {
+    uint32_t fate, mismatch, has_destination, has_word;
+    size_t spec, item, count, word_at, word_len, made_at, made_len;
+} gix_refspec_effect;
+
+/* The kinds of upstreams. */
+enum {
+    GIX_REFSPEC_TRACKED = 1,    /* this spec, the first that can, stores the merged ref in the one in the buffer */
+    GIX_REFSPEC_EXCLUDED = 2,   /* none: excluded_by excludes the merged ref, as Git looks for that, from this spec */
+    GIX_REFSPEC_NOT_STORED = 3, /* none: this spec, the first, fetches the merged ref, and none stores it */
+    GIX_REFSPEC_NOT_FETCHED = 4 /* none: no positive spec fetches the merged ref */
+};
+
+/* The upstream of a branch, or why it has none. spec is NO_SPEC at NOT_FETCHED, and excluded_by at all but EXCLUDED.
+ * len is the length of the name of the tracking ref, and 0 if there is none. */
+typedef struct {
+    uint32_t kind;
+    size_t spec, excluded_by, len;
+} gix_refspec_upstream_ref;
+#define GIX_REFSPEC_UPSTREAM_INIT { 0, 0, 0, 0 }
+
+/* The values of remote.<name>.fetch that Git writes, and those for reviews. */
+enum {
+    GIX_REFSPEC_BRANCH = 1,        /* +refs/heads/<branch>:refs/remotes/<remote>/<branch>, as after `git remote add` */
+    GIX_REFSPEC_MIRROR = 2,        /* +refs/<branch>:refs/<branch>, as after `git remote add --mirror=fetch` */
+    GIX_REFSPEC_PULL_REQUESTS = 3, /* +refs/pull/<any>/head:refs/remotes/<remote>/pr/<any>, with a star for <any> */
+    GIX_REFSPEC_MERGE_REQUESTS = 4 /* the same of refs/merge-requests/ to refs/remotes/<remote>/merge-requests/ */
+};
+
 /* Whether a text is a refspec. */
 uint32_t gix_refspec_check(const uint8_t *text, size_t text_len, uint32_t operation);
 
@@ -178,6 +263,15 @@ uint32_t gix_refspec_read(const uint8_t *text, size_t text_len, uint32_t operati
  * may be no refspec. Sides that its kind lacks don't count, and forced only where the kind has it: then any number
  * but 0 is yes. *len is set as by canonical. GIX_REFSPEC_NO_OPERATION if the kind is unknown. */
 uint32_t gix_refspec_print(const gix_refspec_instruction *parts, uint8_t *buffer, size_t buffer_len, size_t *len);
+
+/* The canonical text of the refspec with this mode and these sides: what gix_refspec_canonical makes of the sign, the
+ * source, and a colon and the destination if there is one. has_source and has_destination: any number but 0 is yes, and
+ * a missing source is written as an empty one. So what gix_refspec_read has told makes an equal refspec, but for `:`
+ * and `+:`, whose destination has to be there, and empty. GIX_REFSPEC_OTHER_PARTS if that text has another mode or
+ * other sides, as the source begins with a sign, or the last side has a colon in it. GIX_REFSPEC_NO_OPERATION if the
+ * mode is unknown. *len is set as by canonical. */
+uint32_t gix_refspec_from_parts(const gix_refspec_sides *sides, uint32_t operation, uint8_t *buffer, size_t buffer_len,
+                                size_t *len);
 
 /* Its canonical text. *len is set to the bytes needed, also at GIX_REFSPEC_TOO_SMALL. */
 uint32_t gix_refspec_canonical(const uint8_t *text, size_t text_len, uint32_t operation, uint8_t *buffer,
@@ -227,6 +321,12 @@ uint32_t gix_refspec_match_refs(const gix_refspec_spec *specs, size_t specs_coun
                                 size_t refs_count, uint32_t direction, gix_refspec_mapping *mappings,
                                 size_t mappings_count, uint8_t *buffer, size_t buffer_len, size_t *count, size_t *len);
 
+/* Whether mappings can be written, such as those of a match that were changed: a verdict on each, in order, also at
+ * GIX_REFSPEC_IN_CONFLICT, which says that some are in conflict. GIX_REFSPEC_TOO_SMALL if there are fewer verdicts than
+ * mappings, and then none is set. Whether names are valid isn't checked. */
+uint32_t gix_refspec_validate(const gix_refspec_pair *pairs, size_t pairs_count, gix_refspec_pair_verdict *verdicts,
+                              size_t verdicts_count);
+
 /* What a fetch writes, if the remote has these names. At GIX_REFSPEC_MISSING_SOURCE and GIX_REFSPEC_IN_CONFLICT nothing
  * is fetched, but mappings and buffer are filled. *count and *len are set as by match. */
 uint32_t gix_refspec_plan(const gix_refspec_wish *wish, const gix_refspec_text *names, size_t names_count,
@@ -238,6 +338,41 @@ uint32_t gix_refspec_plan(const gix_refspec_wish *wish, const gix_refspec_text *
 uint32_t gix_refspec_stale(const gix_refspec_text *texts, size_t texts_count, const gix_refspec_text *remote,
                            size_t remote_count, const gix_refspec_text *local, size_t local_count,
                            gix_refspec_stale_ref *stale, size_t stale_count, size_t *count);
+
+/* What each of these fetch refspecs does with the ref of one name, if the remote has these names, and so why it is fetched
+ * or not: an effect for each refspec, in order, as plan has it of configured ones. *item is set to the index of the name
+ * among the names, or to NO_ITEM if the remote lacks it, and then the effects are those that the refspecs would have.
+ * GIX_REFSPEC_TOO_SMALL if there are fewer effects than refspecs, or too few bytes for the destinations: *item and *len
+ * are set as by match then too. */
+uint32_t gix_refspec_why(const gix_refspec_text *texts, size_t texts_count, const gix_refspec_text *names,
+                         size_t names_count, const uint8_t *name, size_t name_len, gix_refspec_effect *effects,
+                         size_t effects_count, uint8_t *buffer, size_t buffer_len, size_t *item, size_t *len);
+
+/* The upstream of a branch that merges a ref, by these fetch refspecs of its remote: what git rev-parse makes of
+ * <branch>@{upstream}. merge is the first value of branch.<name>.merge. Git compares sides as they are written: here
+ * main isn't refs/heads/main, and a tracking ref isn't completed. *upstream is set also at GIX_REFSPEC_TOO_SMALL, and
+ * upstream->len to the bytes needed. */
+uint32_t gix_refspec_upstream(const gix_refspec_text *texts, size_t count, const uint8_t *merge, size_t merge_len,
+                              uint8_t *buffer, size_t buffer_len, gix_refspec_upstream_ref *upstream);
+
+/* The canonical text of what git fetch --prefetch applies in place of a fetch refspec: a negative one as it is, and one
+ * that stores refs forced and below refs/prefetch/. Empty if it ignores the refspec, as that stores nothing, or its
+ * source begins with refs/tags/. *len is set as by canonical. */
+uint32_t gix_refspec_prefetched(const uint8_t *text, size_t text_len, uint8_t *buffer, size_t buffer_len, size_t *len);
+
+/* What git remote rename makes of a value of remote.<old_name>.fetch: the first :refs/remotes/<old_name>/ in it gets
+ * the new name. Empty if the value doesn't have that: Git then leaves it. Neither the value nor the names are checked.
+ * *len is set as by canonical. */
+uint32_t gix_refspec_renamed(const uint8_t *value, size_t value_len, const uint8_t *old_name, size_t old_name_len,
+                             const uint8_t *new_name, size_t new_name_len, uint8_t *buffer, size_t buffer_len,
+                             size_t *len);
+
+/* The canonical text of a value for a remote of this name and a branch, or all of them for a star. The branch doesn't
+ * count for reviews, and the remote not for a mirror, whose branches are heads/<name>. It fails as
+ * gix_refspec_from_parts does with such sides. GIX_REFSPEC_NO_OPERATION if the value is unknown. *len is set as by
+ * canonical. */
+uint32_t gix_refspec_remote_value(uint32_t value, const uint8_t *remote, size_t remote_len, const uint8_t *branch,
+                                  size_t branch_len, uint8_t *buffer, size_t buffer_len, size_t *len);
 
 /* The sentence for an outcome. It ends with a NUL that isn't counted. */
 uint32_t gix_refspec_explanation(uint32_t outcome, gix_refspec_text *sentence);

@@ -59,6 +59,7 @@ are_unread op texts failure.NeedsIds first = first
 are_unread op texts failure.InConflict first = first
 are_unread op texts failure.MissingSource first = first
 are_unread op texts failure.InvalidId first = first
+are_unread op texts failure.OtherParts first = first
 are_unread op texts failure.NoMemory first = tt
 
 pub text_unread : (op : Operation) (texts : List Text) (k : ℕ) (d : Text) (old : List RefSpecRef) (f : Failure)

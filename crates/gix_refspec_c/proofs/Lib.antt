@@ -1,6 +1,7 @@
 pub mod OutcomeLemmas
 pub mod SingleLemmas
 pub mod GroupLemmas
+pub mod LayoutLemmas
 pub mod MatchingLemmas
 pub mod RefsLemmas
 pub mod NamingLemmas
@@ -10,3 +11,11 @@ pub mod SidesFacts
 pub mod PrintingFacts
 pub mod RefsFacts
 pub mod PlanningLemmas
+pub mod ValidatingLemmas
+pub mod AnswerLemmas
+pub mod MakingLemmas
+pub mod MakingFacts
+pub mod ValuesFacts
+pub mod UpstreamsFacts
+pub mod ValidatingFacts
+pub mod FatesFacts

@@ -1,5 +1,5 @@
 -- Destinations that are ids, and what is told of mappings one after another.
-use Rattle.std.proofs.Common.{◌≡◌, ℕ, ◌+◌, ◌<◌, IfErr, IfOk, take, get_or, arith, List, [], ◌∷◌, ◌++◌, length, map}
+use Rattle.std.proofs.Common.{◌≡◌, ℕ, ◌+◌, ◌<◌, IfErr, IfOk, take, get_or, List, [], ◌∷◌, ◌++◌, length, map}
 use Rattle.std.proofs.Common.{Result, Ok, Err, refl, sym, ap, subst, ◌∙◌, inl}
 use Rattle.gix_refspec.specs.Specs.Reading.{Reading}
 use Rattle.std.specs.List.{AllZip}
@@ -12,44 +12,20 @@ use Rattle.gix_refspec_c.specs.declared.matching.Direction.{Direction}
 use Rattle.gix_refspec_c.specs.declared.matching.Direction.TheVariants.{Forward, Backward}
 use Rattle.gix_refspec_c.specs.declared.failure.Failure.{Failure}
 use Rattle.gix_refspec_c.specs.declared.failure.Failure.TheVariants as failure
-use Rattle.std.proofs.lemmas.List.{length-append, append-nil, append_assoc, map-append, take_more}
+use Rattle.std.proofs.lemmas.List.{append_assoc, map-append, take_more}
 use Rattle.gix_refspec.specs.Matching.Mappings.{Mapped}
 use Rattle.gix_refspec_c.specs.declared.listing.MappingOut.{MappingOut}
 use Rattle.gix_refspec_c.specs.Mapping.{Entry, IsNotWritten, LacksAll, Room, Describes, backward_entry, forward_entry}
-use Rattle.gix_refspec_c.specs.Mapping.{text_of, texts_of, described_at, described_by, described_from}
+use Rattle.gix_refspec_c.specs.Mapping.{text_of, described_at, described_by}
 use Rattle.gix_refspec_c.specs.Matching.{AreMatched, Keeps, Lists, NamesSuffice, entry_of, nameless}
-
--- what follows a listing of some mappings
-described_more : (at : ℕ) (es : List Entry) (e : Entry) → described_from at (es ++ e ∷ []) ≡ described_from at es
-    ++ described_at (at + length (texts_of es)) e ∷ []
-described_more at [] e = ap (λ n. described_at n e ∷ []) omega arith
-described_more at (x ∷ es) e =
-    let here : length (texts_of (x ∷ es)) ≡ length (text_of x) + length (texts_of es) = length-append (text_of x)
-    (texts_of es) in
-    let ends : (at + length (text_of x)) + length (texts_of es) ≡ at + length (texts_of (x ∷ es)) =
-    omega (arith, here) in
-    ap (λ rest. described_at at x ∷ rest) (described_more (at + length (text_of x)) es e
-    ∙ ap (λ n. described_from (at + length (text_of x)) es ++ described_at n e ∷ []) ends)
-
--- the texts of one mapping more
-texts_more : (es : List Entry) (e : Entry) → texts_of (es ++ e ∷ []) ≡ texts_of es ++ text_of e
-texts_more [] e = append-nil (text_of e)
-texts_more (x ∷ es) e = ap (λ t. text_of x ++ t) (texts_more es e)
-    ∙ sym (append_assoc (text_of x) (texts_of es) (text_of e))
+use Rattle.gix_refspec_c.proofs.LayoutLemmas.{laid_out_more}
 
 -- one mapping more is told of
 pub describes_more : (es new : List Entry) (e : Entry) (structs structs2 : List MappingOut) (text text2 : List ℕ)
     → Describes es structs text → new ≡ es ++ e ∷ [] → text2 ≡ text ++ text_of e
     → map described_by structs2 ≡ map described_by structs ++ described_at (length text) e ∷ []
     → Describes new structs2 text2
-describes_more es new e structs structs2 text text2 describes is texts described =
-    let zero : length (texts_of es) ≡ 0 + length (texts_of es) = omega arith in record {
-      described = described ∙ ap (λ l. l ++ described_at (length text) e ∷ []) describes.described
-          ∙ ap (λ t. described_from 0 es ++ described_at (length t) e ∷ []) describes.texts
-          ∙ ap (λ n. described_from 0 es ++ described_at n e ∷ []) zero ∙ sym (described_more 0 es e)
-          ∙ ap (described_from 0) (sym is);
-      texts = texts ∙ ap (λ t. t ++ text_of e) describes.texts ∙ sym (texts_more es e) ∙ ap texts_of (sym is);
-    }
+describes_more = laid_out_more text_of described_at described_by
 
 -- the entries of one element more, from a slice of the list
 pub entries_more : {X Y : Type 0} (f : Y → Entry) (view : X → Y) (xs slice : List X) (k : ℕ) (x : X) → slice ≡ xs

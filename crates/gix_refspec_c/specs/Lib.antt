@@ -4,6 +4,7 @@ pub mod Single
 pub mod Buffer
 pub mod Explanation
 pub mod Group
+pub mod Layout
 pub mod Mapping
 pub mod Matching
 pub mod Planning
@@ -13,3 +14,9 @@ pub mod Naming
 pub mod Sides
 pub mod Printing
 pub mod Refs
+pub mod Remote
+pub mod Making
+pub mod Values
+pub mod Upstreams
+pub mod Validating
+pub mod Fates

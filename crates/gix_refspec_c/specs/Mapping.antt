@@ -1,6 +1,6 @@
 -- Mappings as a caller receives them: a struct for each, and their texts one after the other.
-use Rattle.std.specs.Prelude.{◌≡◌, ◌⊎◌, ◌<◌, ◌≤◌, ◌+◌, ℕ, List, [], ◌∷◌, ◌++◌, length, drop, map, Option, None, Some}
-use Rattle.std.specs.List.{flat_map, slice_get}
+use Rattle.std.specs.Prelude.{◌≡◌, ◌⊎◌, ◌<◌, ◌≤◌, ◌+◌, ℕ, List, [], ◌++◌, length, drop, Option, None, Some}
+use Rattle.std.specs.List.{slice_get}
 use Rattle.gix_refspec.specs.Texts.ObjectId.{lower_of}
 use Rattle.gix_refspec.specs.Specs.Meaning.{Meaning, meaning_of}
 use Rattle.gix_refspec.specs.Specs.Reading.{Reading}
@@ -9,6 +9,7 @@ use Rattle.gix_refspec_c.specs.declared.failure.Failure.{Failure}
 use Rattle.gix_refspec_c.specs.declared.failure.Failure.TheVariants as failure
 use Rattle.gix_refspec_c.specs.declared.listing.MappingOut.{MappingOut}
 use Rattle.gix_refspec_c.specs.declared.listing.Numbers.{Numbers}
+use Rattle.gix_refspec_c.specs.Layout.{AreLaidOut}
 use Rattle.gix_refspec_c.specs.Single.{parts_of}
 
 -- the data of a mapping: the indexes of its spec and of its name, whether it has a destination, whether its spec is
@@ -99,10 +100,6 @@ backward_entry g m = record {
 abbrev pub text_of : Entry → List ℕ
 text_of e = e.id ++ e.made
 
--- the texts of entries, in order
-abbrev pub texts_of : List Entry → List ℕ
-texts_of es = flat_map text_of es
-
 -- the struct of a mapping as plain data: its texts are in the buffer, each with an offset and a length
 pub record Described : Type 0 where
   pub spec : ℕ
@@ -162,15 +159,9 @@ described_at at e = record {
       length e.made;
 }
 
--- the structs of entries whose texts are one after the other from this offset of the buffer on
-abbrev pub described_from : ℕ → List Entry → List Described
-described_from at [] = []
-described_from at (e ∷ es) = described_at at e ∷ described_from (at + length (text_of e)) es
-
 -- the structs and the text are those of the entries
-pub record Describes (es : List Entry) (structs : List MappingOut) (text : List ℕ) : Type 0 where
-  pub described : map described_by structs ≡ described_from 0 es
-  pub texts : text ≡ texts_of es
+abbrev pub Describes : List Entry → List MappingOut → List ℕ → Type 0
+Describes es structs text = AreLaidOut text_of described_at described_by es structs text
 
 -- what a caller passes for an answer: two slices and two counts
 pub record Room : Type 0 where

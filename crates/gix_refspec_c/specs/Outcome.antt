@@ -34,6 +34,7 @@ number_of failure.NeedsIds = 21
 number_of failure.InConflict = 22
 number_of failure.MissingSource = 23
 number_of failure.InvalidId = 24
+number_of failure.OtherParts = 25
 
 -- the failure that reports a fault of a name
 abbrev pub of_fault : NameError → Failure

@@ -77,6 +77,7 @@ fn failure_numbered(number: u32) -> Option<Failure>
         22 => Failure::InConflict,
         23 => Failure::MissingSource,
         24 => Failure::InvalidId,
+        25 => Failure::OtherParts,
         _ => return None,
     })
 }
@@ -119,12 +120,15 @@ fn sentence_of(failure: Failure) -> &'static [u8]
         Failure::NoList => b"Only a request for all refs is safe.\0",
         Failure::TooSmall => b"The buffer has no room for the answer.\0",
         Failure::NoMemory => b"Memory ran out.\0",
-        Failure::NoOperation => b"There is no such operation, direction, kind or outcome.\0",
+        Failure::NoOperation => b"There is no such operation, direction, kind, mode or outcome.\0",
         Failure::NeedsIds => {
             b"A destination is an object id, and names alone don't tell which refs have it.\0"
         }
         Failure::InConflict => b"Several refs would be written to one destination.\0",
         Failure::MissingSource => b"The remote lacks the source of a refspec.\0",
         Failure::InvalidId => b"An object id has 40 or 64 hexadecimal digits.\0",
+        Failure::OtherParts => {
+            b"The source begins with a sign, or the last part has a colon in it.\0"
+        }
     }
 }

@@ -59,6 +59,8 @@ pub enum Failure {
     MissingSource,
     /// Digits spell no id.
     InvalidId,
+    /// The text of the parts has other parts.
+    OtherParts,
 }
 
 impl Failure {
@@ -91,6 +93,7 @@ impl Failure {
             Failure::InConflict => 22,
             Failure::MissingSource => 23,
             Failure::InvalidId => 24,
+            Failure::OtherParts => 25,
         }
     }
 }

@@ -7,18 +7,25 @@
 
 pub mod explanation;
 pub mod failure;
+pub mod fates;
 pub mod listing;
 pub mod locating;
+pub mod making;
 pub mod matching;
 pub mod naming;
 pub mod parts;
 pub mod planning;
+pub mod prefetching;
 pub mod prefixes;
 pub mod printing;
 pub mod pruning;
 pub mod reading;
 pub mod refs;
+pub mod remotes;
+pub mod renaming;
 pub mod sides;
 pub mod single;
+pub mod upstreams;
+pub mod validating;
 pub mod version;
 mod write;

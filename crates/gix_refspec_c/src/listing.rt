@@ -57,13 +57,17 @@ pub(crate) struct Listing {
 }
 
 impl Listing {
-    /// An empty listing.
-    pub(crate) fn new(alloc: Global) -> Listing
-        ensures { Describes [] result.mappings.items result.text.items }
+    /// An empty listing with room for so many mappings.
+    pub(crate) fn with_room(alloc: Global, count: usize) -> Result<Listing, Failure>
+        ensures ok { IfOk result (λ l. Describes [] l.mappings.items l.text.items) }
+        ensures err { IfErr result (λ f. f ≡ Failure.NoMemory) }
     {
-        Listing {
-            mappings: Vec::new(alloc),
-            text: Vec::new(alloc),
+        match Vec::with_capacity(alloc, count) {
+            Ok(mappings) => Ok(Listing {
+                mappings,
+                text: Vec::new(alloc),
+            }),
+            Err(_) => Err(Failure::NoMemory),
         }
     }
 

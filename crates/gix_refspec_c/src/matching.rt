@@ -167,7 +167,7 @@ fn listed_forward(
         (map (forward_entry (readings_of group.now)) (map mapped_of mappings.now)) listing.mappings.items listing.text.items) }
     ensures err { IfErr result (λ f. f ≡ Failure.NoMemory) }
 {
-    let mut listing = Listing::new(alloc);
+    let mut listing = Listing::with_room(alloc, mappings.len())?;
     for mapping in mappings {
         listing.add_forward(alloc, group, mapping)?;
     }
@@ -184,7 +184,7 @@ fn listed_backward(
         (map (backward_entry (readings_of group.now)) (map mapped_of mappings.now)) listing.mappings.items listing.text.items) }
     ensures err { IfErr result (λ f. f ≡ Failure.NoMemory) }
 {
-    let mut listing = Listing::new(alloc);
+    let mut listing = Listing::with_room(alloc, mappings.len())?;
     for mapping in mappings {
         listing.add_backward(alloc, group, mapping)?;
     }

@@ -164,7 +164,7 @@ fn listed(alloc: Global, wish: &Wish<'_, '_>, plan: &Plan<'_>) -> Result<Listing
         listing.mappings.items listing.text.items) }
     ensures err { IfErr result (λ f. f ≡ Failure.NoMemory) }
 {
-    let mut listing = Listing::new(alloc);
+    let mut listing = Listing::with_room(alloc, plan.updates.len())?;
     for update in &plan.updates {
         add_update(alloc, &mut listing, wish, update)?;
     }

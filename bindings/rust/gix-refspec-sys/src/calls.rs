@@ -132,15 +132,6 @@ impl<'a> Spec<'a> {
     pub fn new(text: &'a [u8], operation: u32) -> Self {
         Spec { raw: sys::Spec { text: text_of(text), operation }, text: PhantomData }
     }
-
-    fn len(&self) -> usize {
-        self.raw.text.len
-    }
-
-    fn is_pattern(&self) -> bool {
-        // SAFETY: the text is borrowed for as long as this is.
-        unsafe { bytes_of(&self.raw.text) }.contains(&b'*')
-    }
 }
 
 /// A ref: its name, and the digits of the ids of its object and of the tagged one; empty where they aren't known.
@@ -181,20 +172,59 @@ impl Mappings {
     }
 }
 
+/// The text of a fetch, or the name of a ref.
+#[repr(transparent)]
+#[derive(Clone, Copy, Debug)]
+pub struct Text<'a> {
+    raw: sys::Text,
+    text: PhantomData<&'a [u8]>,
+}
+
+impl<'a> Text<'a> {
+    pub fn new(text: &'a [u8]) -> Self {
+        Text { raw: text_of(text), text: PhantomData }
+    }
+}
+
 /// How specs map refs.
 pub fn matched(specs: &[Spec<'_>], refs: &[Ref<'_>], direction: u32) -> Result<Mappings, Outcome> {
-    let (mut count, mut len) = room_for(specs, refs);
+    let room = room_for(specs.iter().map(|spec| &spec.raw.text), refs.iter().map(|one| &one.raw.name));
+    listed(room, |list, list_room, text, text_room, count, len| {
+        // SAFETY: the lists are as long as they say, their elements are those of C, and both buffers have that room.
+        unsafe {
+            sys::gix_refspec_match_refs(
+                specs.as_ptr().cast(), specs.len(), refs.as_ptr().cast(), refs.len(), direction,
+                list, list_room, text, text_room, count, len,
+            )
+        }
+    })
+}
+
+/// How fetches map names. Takes less memory than `matched`.
+pub fn matched_names(fetches: &[Text<'_>], names: &[Text<'_>], direction: u32) -> Result<Mappings, Outcome> {
+    let room = room_for(fetches.iter().map(|fetch| &fetch.raw), names.iter().map(|name| &name.raw));
+    listed(room, |list, list_room, text, text_room, count, len| {
+        // SAFETY: as in `matched`.
+        unsafe {
+            sys::gix_refspec_match(
+                fetches.as_ptr().cast(), fetches.len(), names.as_ptr().cast(), names.len(), direction,
+                list, list_room, text, text_room, count, len,
+            )
+        }
+    })
+}
+
+/// What a call lists: at the first attempt with this room for mappings and their texts, then with what it needs.
+fn listed(
+    room: (usize, usize),
+    call: impl Fn(*mut sys::Mapping, usize, *mut u8, usize, &mut usize, &mut usize) -> u32,
+) -> Result<Mappings, Outcome> {
+    let (mut count, mut len) = room;
     loop {
         let mut found = Mappings { list: Vec::with_capacity(count), text: Vec::with_capacity(len) };
         let (list_room, text_room) = (found.list.capacity(), found.text.capacity());
-        // SAFETY: the lists are as long as they say, their elements are those of C, and both buffers have that room.
-        let outcome = unsafe {
-            sys::gix_refspec_match_refs(
-                specs.as_ptr().cast(), specs.len(), refs.as_ptr().cast(), refs.len(), direction,
-                found.list.as_mut_ptr(), list_room, found.text.as_mut_ptr(), text_room, &mut count, &mut len,
-            )
-        };
-        match outcome {
+        let (list, text) = (found.list.as_mut_ptr(), found.text.as_mut_ptr());
+        match call(list, list_room, text, text_room, &mut count, &mut len) {
             // `count` and `len` are what is needed.
             sys::TOO_SMALL => continue,
             outcome => Outcome::check(outcome)?,
@@ -210,15 +240,58 @@ pub fn matched(specs: &[Spec<'_>], refs: &[Ref<'_>], direction: u32) -> Result<M
 
 /// How many mappings and bytes of texts there mostly are at most: one of each ref for a pattern, and few for other
 /// specs.
-fn room_for(specs: &[Spec<'_>], refs: &[Ref<'_>]) -> (usize, usize) {
-    let longest = specs.iter().map(Spec::len).max().unwrap_or(0);
+fn room_for<'t>(
+    specs: impl ExactSizeIterator<Item = &'t sys::Text> + Clone,
+    names: impl ExactSizeIterator<Item = &'t sys::Text>,
+) -> (usize, usize) {
+    let longest = specs.clone().map(|spec| spec.len).max().unwrap_or(0);
     // A name made from a partial one begins with `refs/heads/`, and an id has 64 digits.
     let others = (specs.len(), specs.len() * (longest + 64 + 11));
-    if !specs.iter().any(Spec::is_pattern) {
+    // SAFETY: the texts are borrowed for as long as the lists that have them are.
+    if !specs.clone().any(|spec| unsafe { bytes_of(spec) }.contains(&b'*')) {
         return others;
     }
-    let names: usize = refs.iter().map(|one| one.raw.name.len).sum();
-    (others.0 + refs.len(), others.1 + names + refs.len() * longest)
+    let count = names.len();
+    let bytes: usize = names.map(|name| name.len).sum();
+    (others.0 + count, others.1 + bytes + count * longest)
+}
+
+/// A mapping to validate: its source, told apart by its bytes and by whether it is an id, and its destination.
+#[repr(transparent)]
+#[derive(Clone, Copy, Debug)]
+pub struct Pair<'a> {
+    raw: sys::Pair,
+    texts: PhantomData<&'a [u8]>,
+}
+
+impl<'a> Pair<'a> {
+    pub fn of_name(name: &'a [u8], destination: Option<&'a [u8]>) -> Self {
+        Pair { raw: pair_of(name, 0, destination), texts: PhantomData }
+    }
+
+    pub fn of_id(id: &'a [u8], destination: Option<&'a [u8]>) -> Self {
+        Pair { raw: pair_of(id, 1, destination), texts: PhantomData }
+    }
+}
+
+fn pair_of(source: &[u8], source_is_id: u32, destination: Option<&[u8]>) -> sys::Pair {
+    let has_destination = u32::from(destination.is_some());
+    let destination = destination.map_or(NO_TEXT, text_of);
+    sys::Pair { source: text_of(source), destination, source_is_id, has_destination }
+}
+
+/// What becomes of each of these mappings, also if some are in conflict.
+pub fn validated(pairs: &[Pair<'_>]) -> Result<Vec<sys::PairVerdict>, Outcome> {
+    let mut verdicts = Vec::with_capacity(pairs.len());
+    let room = verdicts.capacity();
+    // SAFETY: the list is as long as it says, its elements are those of C, and there is room for a verdict on each.
+    let outcome = unsafe { sys::gix_refspec_validate(pairs.as_ptr().cast(), pairs.len(), verdicts.as_mut_ptr(), room) };
+    if outcome != sys::IN_CONFLICT {
+        Outcome::check(outcome)?;
+    }
+    // SAFETY: the call has set so many.
+    unsafe { verdicts.set_len(pairs.len()) };
+    Ok(verdicts)
 }
 
 const NO_TEXT: sys::Text = sys::Text { bytes: b"".as_ptr(), len: 0 };

@@ -40,6 +40,7 @@ pub const NEEDS_IDS: u32 = 21;
 pub const IN_CONFLICT: u32 = 22;
 pub const MISSING_SOURCE: u32 = 23;
 pub const INVALID_ID: u32 = 24;
+pub const OTHER_PARTS: u32 = 25;
 
 /// The kinds of instructions.
 pub const PUSH_ALL_MATCHING: u32 = 1;
@@ -80,9 +81,49 @@ pub const OVERRULED: u32 = 6;
 pub const MISSING: u32 = 7;
 pub const DIRECTORY_CONFLICT: u32 = 8;
 
-/// The item of an object requested by its id.
+/// What becomes of a ref by one spec.
+pub const FATE_UNMATCHED: u32 = 1;
+pub const FATE_EXCLUDES: u32 = 2;
+pub const FATE_EXCLUDED: u32 = 3;
+pub const FATE_INVALID_NAME: u32 = 4;
+pub const FATE_INVALID_DESTINATION: u32 = 5;
+pub const FATE_DUPLICATE: u32 = 6;
+pub const FATE_IN_CONFLICT: u32 = 7;
+pub const FATE_DIRECTORY_CONFLICT: u32 = 8;
+pub const FATE_WRITTEN: u32 = 9;
+
+/// Why a source doesn't match a name.
+pub const MISMATCH_NO_SOURCE: u32 = 1;
+pub const MISMATCH_PREFIX: u32 = 2;
+pub const MISMATCH_SUFFIX: u32 = 3;
+pub const MISMATCH_OVERLAP: u32 = 4;
+pub const MISMATCH_OTHER_NAME: u32 = 5;
+pub const MISMATCH_OBJECT: u32 = 6;
+pub const MISMATCH_NO_CANDIDATE: u32 = 7;
+pub const MISMATCH_EARLIER_CANDIDATE: u32 = 8;
+
+/// The kinds of upstreams.
+pub const TRACKED: u32 = 1;
+pub const EXCLUDED: u32 = 2;
+pub const NOT_STORED: u32 = 3;
+pub const NOT_FETCHED: u32 = 4;
+
+/// The values of `remote.<name>.fetch` that Git writes, and those for reviews.
+pub const BRANCH: u32 = 1;
+pub const MIRROR: u32 = 2;
+pub const PULL_REQUESTS: u32 = 3;
+pub const MERGE_REQUESTS: u32 = 4;
+
+/// What becomes of a mapping that is validated.
+pub const PAIR_KEPT: u32 = 1;
+pub const PAIR_REMOVED: u32 = 2;
+pub const PAIR_IN_CONFLICT: u32 = 3;
+
+/// The item of an object requested by its id; and no item, of an effect that no other name decides.
 pub const NO_ITEM: usize = usize::MAX;
-/// No spec: of `DEFAULT`, `ALL_TAGS`, and a stale ref that nothing keeps.
+/// The first mapping to a destination that isn't in conflict.
+pub const NO_PAIR: usize = usize::MAX;
+/// No spec: of `DEFAULT`, `ALL_TAGS`, a stale ref that nothing keeps, and an upstream that isn't fetched or excluded.
 pub const NO_SPEC: usize = usize::MAX;
 
 /// A text. The pointer may be null if the length is 0.
@@ -186,6 +227,51 @@ pub struct StaleRef {
     pub kept_by: usize,
 }
 
+/// What a spec does with a ref. The destination is in the buffer.
+#[repr(C)]
+#[derive(Clone, Copy, Debug, Default)]
+pub struct Effect {
+    pub fate: u32,
+    pub mismatch: u32,
+    pub has_destination: u32,
+    pub has_word: u32,
+    pub spec: usize,
+    pub item: usize,
+    pub count: usize,
+    pub word_at: usize,
+    pub word_len: usize,
+    pub made_at: usize,
+    pub made_len: usize,
+}
+
+/// The upstream of a branch, or why it has none. The name of the tracking ref is in the buffer.
+#[repr(C)]
+#[derive(Clone, Copy, Debug, Default)]
+pub struct UpstreamRef {
+    pub kind: u32,
+    pub spec: usize,
+    pub excluded_by: usize,
+    pub len: usize,
+}
+
+/// A mapping to validate. `source_is_id` and `has_destination`: any number but 0 is yes.
+#[repr(C)]
+#[derive(Clone, Copy, Debug)]
+pub struct Pair {
+    pub source: Text,
+    pub destination: Text,
+    pub source_is_id: u32,
+    pub has_destination: u32,
+}
+
+/// What becomes of it; in a conflict with the index of the first mapping to its destination.
+#[repr(C)]
+#[derive(Clone, Copy, Debug, Default)]
+pub struct PairVerdict {
+    pub verdict: u32,
+    pub first: usize,
+}
+
 // What is read and what is written are in lines of their own.
 #[rustfmt::skip]
 extern "C" {
@@ -195,6 +281,10 @@ extern "C" {
     pub fn gix_refspec_parts(text: *const u8, text_len: usize, operation: u32, parts: *mut Parts) -> u32;
     pub fn gix_refspec_read(text: *const u8, text_len: usize, operation: u32, sides: *mut Sides) -> u32;
     pub fn gix_refspec_print(parts: *const Parts, buffer: *mut u8, buffer_len: usize, len: *mut usize) -> u32;
+    pub fn gix_refspec_from_parts(
+        sides: *const Sides, operation: u32,
+        buffer: *mut u8, buffer_len: usize, len: *mut usize,
+    ) -> u32;
     pub fn gix_refspec_canonical(
         text: *const u8, text_len: usize, operation: u32,
         buffer: *mut u8, buffer_len: usize, len: *mut usize,
@@ -239,6 +329,32 @@ extern "C" {
         texts: *const Text, texts_count: usize, remote: *const Text, remote_count: usize,
         local: *const Text, local_count: usize,
         stale: *mut StaleRef, stale_count: usize, count: *mut usize,
+    ) -> u32;
+    pub fn gix_refspec_validate(
+        pairs: *const Pair, pairs_count: usize,
+        verdicts: *mut PairVerdict, verdicts_count: usize,
+    ) -> u32;
+    pub fn gix_refspec_why(
+        texts: *const Text, texts_count: usize, names: *const Text, names_count: usize,
+        name: *const u8, name_len: usize,
+        effects: *mut Effect, effects_count: usize, buffer: *mut u8, buffer_len: usize, item: *mut usize, len: *mut usize,
+    ) -> u32;
+    pub fn gix_refspec_upstream(
+        texts: *const Text, count: usize, merge: *const u8, merge_len: usize,
+        buffer: *mut u8, buffer_len: usize, upstream: *mut UpstreamRef,
+    ) -> u32;
+    pub fn gix_refspec_prefetched(
+        text: *const u8, text_len: usize,
+        buffer: *mut u8, buffer_len: usize, len: *mut usize,
+    ) -> u32;
+    pub fn gix_refspec_renamed(
+        value: *const u8, value_len: usize, old_name: *const u8, old_name_len: usize,
+        new_name: *const u8, new_name_len: usize,
+        buffer: *mut u8, buffer_len: usize, len: *mut usize,
+    ) -> u32;
+    pub fn gix_refspec_remote_value(
+        value: u32, remote: *const u8, remote_len: usize, branch: *const u8, branch_len: usize,
+        buffer: *mut u8, buffer_len: usize, len: *mut usize,
     ) -> u32;
     pub fn gix_refspec_explanation(outcome: u32, sentence: *mut Text) -> u32;
 }

@@ -1,5 +1,5 @@
-//! Parses, prints, compares and matches Git refspecs, lists the ref prefixes to request from a server, plans fetches, and
-//! finds stale refs.
+//! Parses, prints, compares and matches Git refspecs, lists the ref prefixes to request from a server, plans fetches, tells why a
+//! ref is fetched or not, and finds stale refs, upstreams and the fetch values of remotes.
 //!
 //! ```
 //! use refspec::{Operation, Side, Spec};
@@ -19,6 +19,7 @@ use gix_refspec_sys as sys;
 use std::cmp::Ordering;
 use std::collections::BTreeMap;
 use std::hash::{Hash, Hasher};
+use std::ops::Range;
 use std::{error, fmt, slice};
 
 /// What a refspec is for.
@@ -104,6 +105,8 @@ pub enum Error {
     NoMemory,
     /// A destination is an object id, and names don't tell which refs have it.
     NeedsIds,
+    /// The source begins with a sign, or the last side has a colon in it.
+    OtherParts,
     /// A push is among the fetches.
     Push,
     /// The library ended with an outcome that this crate doesn't know.
@@ -111,7 +114,7 @@ pub enum Error {
 }
 
 /// The errors that the library has a number for.
-const NUMBERED: [(u32, Error); 18] = [
+const NUMBERED: [(u32, Error); 19] = [
     (sys::EMPTY, Error::Empty),
     (sys::NEGATIVE_WITH_DESTINATION, Error::NegativeWithDestination),
     (sys::NEGATIVE_EMPTY, Error::NegativeEmpty),
@@ -130,6 +133,7 @@ const NUMBERED: [(u32, Error); 18] = [
     (sys::NAME_INVALID_BYTE, Error::NameInvalidByte),
     (sys::NO_MEMORY, Error::NoMemory),
     (sys::NEEDS_IDS, Error::NeedsIds),
+    (sys::OTHER_PARTS, Error::OtherParts),
 ];
 
 impl Error {
@@ -227,6 +231,37 @@ impl From<ParseError> for Error {
     }
 }
 
+/// What the sign of a refspec says: none, `+` or `^`.
+#[derive(Clone, Copy, Debug, PartialEq, Eq, Hash)]
+pub enum Mode {
+    Normal,
+    Forced,
+    Negative,
+}
+
+impl Mode {
+    fn number(self) -> u32 {
+        match self {
+            Mode::Normal => sys::NORMAL,
+            Mode::Forced => sys::FORCED,
+            Mode::Negative => sys::NEGATIVE,
+        }
+    }
+}
+
+/// A value of `remote.<name>.fetch` that Git writes, or one for reviews.
+#[derive(Clone, Copy, Debug, PartialEq, Eq, Hash)]
+pub enum RemoteValue<'v> {
+    /// That of a branch, as after `git remote add`; of all of them for `*`.
+    Branch { remote: &'v [u8], branch: &'v [u8] },
+    /// That of a mirror, as after `git remote add --mirror=fetch`: of `heads/main` for a branch, or of all refs for `*`.
+    Mirror { branch: &'v [u8] },
+    /// That of all pull requests of GitHub.
+    PullRequests { remote: &'v [u8] },
+    /// That of all merge requests of GitLab.
+    MergeRequests { remote: &'v [u8] },
+}
+
 /// A refspec. Two are equal exactly if operation and canonical text are equal; their texts, and so their prefixes, may
 /// differ. They are ordered as `gix_refspec_compare` orders them, and pushes come before fetches.
 #[derive(Clone)]
@@ -270,6 +305,87 @@ impl Spec {
             canonical,
             text: text.to_vec(),
         })
+    }
+
+    /// The spec with this mode and these sides: that of a text of the sign, the source, and a colon and the destination if
+    /// there is one. Fails with `OtherParts` if that text has another mode or other sides, and otherwise as `parse` does.
+    ///
+    /// ```
+    /// use refspec::{Error, Mode, Operation, Spec};
+    ///
+    /// let spec = Spec::from_parts(Mode::Forced, Some(b"main"), Some(b"refs/x"), Operation::Fetch)?;
+    /// assert_eq!(spec.as_bytes(), b"+main:refs/x");
+    /// let refused = Spec::from_parts(Mode::Normal, Some(b"+main"), None, Operation::Fetch);
+    /// assert_eq!(refused.unwrap_err(), Error::OtherParts);
+    /// # Ok::<(), Error>(())
+    /// ```
+    #[rustfmt::skip]
+    pub fn from_parts(
+        mode: Mode, source: Option<&[u8]>, destination: Option<&[u8]>, operation: Operation,
+    ) -> Result<Spec, Error> {
+        let sides = sys::Sides {
+            mode: mode.number(),
+            has_source: u32::from(source.is_some()),
+            has_destination: u32::from(destination.is_some()),
+            source: source.map_or(no_text(), text_of),
+            destination: destination.map_or(no_text(), text_of),
+        };
+        let text = filled(256, |buffer, len| unsafe {
+            sys::gix_refspec_from_parts(&sides, operation.number(), buffer.as_mut_ptr(), buffer.len(), len)
+        })?;
+        Ok(Spec::parse(text, operation)?)
+    }
+
+    /// The spec of a value of `remote.<name>.fetch`. Fails as [`from_parts`](Spec::from_parts) does with such sides.
+    ///
+    /// ```
+    /// use refspec::{RemoteValue, Spec};
+    ///
+    /// let spec = Spec::for_remote(RemoteValue::Branch { remote: b"origin", branch: b"*" })?;
+    /// assert_eq!(spec.as_bytes(), b"+refs/heads/*:refs/remotes/origin/*");
+    /// # Ok::<(), refspec::Error>(())
+    /// ```
+    #[rustfmt::skip]
+    pub fn for_remote(value: RemoteValue<'_>) -> Result<Spec, Error> {
+        let (number, remote, branch) = match value {
+            RemoteValue::Branch { remote, branch } => (sys::BRANCH, remote, branch),
+            RemoteValue::Mirror { branch } => (sys::MIRROR, &b""[..], branch),
+            RemoteValue::PullRequests { remote } => (sys::PULL_REQUESTS, remote, &b""[..]),
+            RemoteValue::MergeRequests { remote } => (sys::MERGE_REQUESTS, remote, &b""[..]),
+        };
+        let text = filled(256, |buffer, len| unsafe {
+            sys::gix_refspec_remote_value(
+                number, remote.as_ptr(), remote.len(), branch.as_ptr(), branch.len(),
+                buffer.as_mut_ptr(), buffer.len(), len,
+            )
+        })?;
+        Ok(Spec::parse(text, Operation::Fetch)?)
+    }
+
+    /// What `git fetch --prefetch` applies in place of this fetch: a negative spec as it is, and one that stores refs forced
+    /// and below `refs/prefetch/`. `None` if it ignores the spec, as that stores nothing, or its source begins with
+    /// `refs/tags/`. A push is refused.
+    ///
+    /// ```
+    /// use refspec::{Operation, Spec};
+    ///
+    /// let spec = Spec::parse("refs/heads/*:refs/remotes/origin/*", Operation::Fetch)?;
+    /// let prefetched = spec.prefetched()?.unwrap();
+    /// assert_eq!(prefetched.as_bytes(), b"+refs/heads/*:refs/prefetch/remotes/origin/*");
+    /// # Ok::<(), refspec::Error>(())
+    /// ```
+    pub fn prefetched(&self) -> Result<Option<Spec>, Error> {
+        if self.operation == Operation::Push {
+            return Err(Error::Push);
+        }
+        let own = &self.canonical;
+        let text = filled(own.len() + 32, |buffer, len| unsafe {
+            sys::gix_refspec_prefetched(own.as_ptr(), own.len(), buffer.as_mut_ptr(), buffer.len(), len)
+        })?;
+        match text[..] {
+            [] => Ok(None),
+            _ => Ok(Some(Spec::parse(text, Operation::Fetch)?)),
+        }
     }
 
     // What specs are compared by, from first to last. Operation and canonical text follow from it. Those of one kind have
@@ -600,6 +716,55 @@ pub fn matches<N: AsRef<[u8]>>(fetches: &[Spec], names: &[N], direction: Directi
     Ok(lists.told().iter().map(|one| lists.mapping(one, names, direction)).collect())
 }
 
+/// What becomes of a mapping.
+#[derive(Clone, Copy, Debug, PartialEq, Eq, Hash)]
+pub enum Validity {
+    /// It is kept.
+    Kept,
+    /// It is removed, as its destination neither begins with `refs/` nor is `HEAD`.
+    Removed,
+    /// Another source has the same destination, and this is the index of the first mapping to that.
+    InConflict { first: usize },
+}
+
+/// What becomes of mappings, such as those of [`matches`] that were changed, in order. Whether names are valid isn't checked.
+///
+/// ```
+/// use refspec::{matches, validate, Direction, Operation, Spec, Validity};
+///
+/// let specs = [Spec::parse("refs/heads/*:refs/x/*", Operation::Fetch)?, Spec::parse("b:refs/x/a", Operation::Fetch)?];
+/// let found = matches(&specs, &["refs/heads/a", "refs/heads/b"], Direction::Forward)?;
+/// let contested = Validity::InConflict { first: 0 };
+/// assert_eq!(validate(&found)?, [contested, Validity::Kept, contested]);
+/// # Ok::<(), refspec::Error>(())
+/// ```
+pub fn validate(mappings: &[Mapping]) -> Result<Vec<Validity>, Error> {
+    let pairs: Vec<_> = mappings.iter().map(pair_of).collect();
+    let mut told = vec![sys::PairVerdict::default(); pairs.len()];
+    // What the call writes overlaps nothing that it reads.
+    match unsafe { sys::gix_refspec_validate(pairs.as_ptr(), pairs.len(), told.as_mut_ptr(), told.len()) } {
+        sys::OK | sys::IN_CONFLICT => Ok(told.iter().map(validity_of).collect()),
+        outcome => Err(Error::of(outcome)),
+    }
+}
+
+fn pair_of(mapping: &Mapping) -> sys::Pair {
+    sys::Pair {
+        source: text_of(&mapping.source),
+        destination: mapping.destination.as_deref().map_or(no_text(), text_of),
+        source_is_id: u32::from(mapping.item.is_none()),
+        has_destination: u32::from(mapping.destination.is_some()),
+    }
+}
+
+fn validity_of(told: &sys::PairVerdict) -> Validity {
+    match told.verdict {
+        sys::PAIR_KEPT => Validity::Kept,
+        sys::PAIR_REMOVED => Validity::Removed,
+        _ => Validity::InConflict { first: told.first },
+    }
+}
+
 /// What to fetch.
 #[derive(Clone, Copy)]
 pub struct Wish<'w> {
@@ -828,6 +993,236 @@ pub fn stale<R: AsRef<[u8]>, L: AsRef<[u8]>>(fetches: &[Spec], remote: &[R], loc
     }
     let kept_by = |one: &sys::StaleRef| (one.kept_by != sys::NO_SPEC).then_some(one.kept_by);
     Ok(found[..count].iter().map(|one| StaleRef { item: one.item, kept_by: kept_by(one) }).collect())
+}
+
+/// Why a source doesn't match a name.
+#[derive(Clone, Copy, Debug, PartialEq, Eq, Hash)]
+#[non_exhaustive]
+pub enum Mismatch {
+    /// There is none.
+    NoSource,
+    /// The name doesn't begin with the prefix of the pattern. They begin with this many equal bytes.
+    Prefix(usize),
+    /// The name begins with the prefix of the pattern, but doesn't end with its suffix. They end with this many equal bytes.
+    Suffix(usize),
+    /// The name begins with the prefix of the pattern and ends with its suffix, but they would overlap in it.
+    Overlap,
+    /// The source is another name.
+    OtherName,
+    /// The source is an object id.
+    Object,
+    /// The source is a partial name, of which the name is no candidate.
+    NoCandidate,
+    /// The name is a candidate of the partial name, but that at this index is an earlier one, and so the spec takes that.
+    EarlierCandidate(usize),
+}
+
+/// Another mapping of a fetch.
+#[derive(Clone, Copy, Debug, PartialEq, Eq, Hash)]
+pub struct Rival {
+    /// The index of its spec.
+    pub spec: usize,
+    /// The index of the name that is its source. `None` for an object id.
+    pub item: Option<usize>,
+}
+
+/// What becomes of a ref by one spec: the first of these that applies.
+#[derive(Clone, Debug, PartialEq, Eq, Hash)]
+#[non_exhaustive]
+pub enum Fate {
+    /// The source doesn't match the name.
+    Unmatched(Mismatch),
+    /// The spec is negative, and excludes the ref; a pattern with this part of the name for its star.
+    Excludes(Option<Range<usize>>),
+    /// The spec at this index, the first negative one that does, excludes the ref; a pattern with this part of the name.
+    Excluded { spec: usize, word: Option<Range<usize>> },
+    /// The name isn't a valid ref name, so a fetch leaves it out.
+    InvalidName,
+    /// The destination isn't a valid name below `refs/`, so a fetch leaves it out.
+    InvalidDestination,
+    /// The earlier spec at this index, the first that does, maps the ref to the same destination.
+    Duplicate { spec: usize },
+    /// Another source has the same destination, so nothing is fetched.
+    InConflict(Rival),
+    /// The destination of another mapping is a directory of the destination, or the other way round: Git writes one of both.
+    DirectoryConflict(Rival),
+    /// It is fetched, and written to the destination if there is one.
+    Written,
+}
+
+/// What a spec does with a ref.
+#[derive(Clone, PartialEq, Eq, Hash)]
+pub struct Effect {
+    /// The local ref that the spec maps the ref to, written or not. `None` if it doesn't map it, or has no destination.
+    pub destination: Option<Vec<u8>>,
+    /// What becomes of the ref by the spec.
+    pub fate: Fate,
+}
+
+impl fmt::Debug for Effect {
+    fn fmt(&self, f: &mut fmt::Formatter<'_>) -> fmt::Result {
+        let destination = self.destination.as_deref().map(Quoted);
+        f.debug_struct("Effect").field("destination", &destination).field("fate", &self.fate).finish()
+    }
+}
+
+/// What specs do with a ref.
+#[derive(Clone, Debug, PartialEq, Eq, Hash)]
+pub struct Effects {
+    /// The index of its name. `None` if the remote lacks the ref: then the effects are those that the specs would have.
+    pub item: Option<usize>,
+    /// The effect of each spec, in order.
+    pub of_specs: Vec<Effect>,
+}
+
+/// What each spec does with the ref of this name, if the remote has these names, and so why it is fetched or not. A push is
+/// refused.
+///
+/// ```
+/// use refspec::{why, Fate, Operation, Spec};
+///
+/// let specs = [Spec::parse("refs/heads/*:refs/x/*", Operation::Fetch)?, Spec::parse("^refs/heads/a*", Operation::Fetch)?];
+/// let effects = why(&specs, &["refs/heads/ab"], "refs/heads/ab")?;
+/// assert_eq!(effects.item, Some(0));
+/// assert_eq!(effects.of_specs[0].fate, Fate::Excluded { spec: 1, word: Some(12..13) });
+/// assert_eq!(effects.of_specs[0].destination.as_deref(), Some(&b"refs/x/ab"[..]));
+/// # Ok::<(), refspec::Error>(())
+/// ```
+#[rustfmt::skip]
+pub fn why<N: AsRef<[u8]>>(fetches: &[Spec], names: &[N], name: impl AsRef<[u8]>) -> Result<Effects, Error> {
+    let (texts, names, name) = (texts_of(fetches)?, names_of(names), name.as_ref());
+    let mut told = vec![sys::Effect::default(); texts.len()];
+    let mut item = 0;
+    let made = filled(256, |buffer, len| unsafe {
+        sys::gix_refspec_why(
+            texts.as_ptr(), texts.len(), names.as_ptr(), names.len(), name.as_ptr(), name.len(),
+            told.as_mut_ptr(), told.len(), buffer.as_mut_ptr(), buffer.len(), &mut item, len,
+        )
+    })?;
+    let of_specs = told.iter().map(|one| effect_of(one, &made)).collect();
+    Ok(Effects { item: item_of(item), of_specs })
+}
+
+fn effect_of(told: &sys::Effect, made: &[u8]) -> Effect {
+    let rival = Rival { spec: told.spec, item: item_of(told.item) };
+    let word = (told.has_word != 0).then(|| told.word_at..told.word_at + told.word_len);
+    Effect {
+        destination: (told.has_destination != 0).then(|| made[told.made_at..told.made_at + told.made_len].to_vec()),
+        fate: match told.fate {
+            sys::FATE_UNMATCHED => Fate::Unmatched(mismatch_of(told)),
+            sys::FATE_EXCLUDES => Fate::Excludes(word),
+            sys::FATE_EXCLUDED => Fate::Excluded { spec: told.spec, word },
+            sys::FATE_INVALID_NAME => Fate::InvalidName,
+            sys::FATE_INVALID_DESTINATION => Fate::InvalidDestination,
+            sys::FATE_DUPLICATE => Fate::Duplicate { spec: told.spec },
+            sys::FATE_IN_CONFLICT => Fate::InConflict(rival),
+            sys::FATE_DIRECTORY_CONFLICT => Fate::DirectoryConflict(rival),
+            _ => Fate::Written,
+        },
+    }
+}
+
+fn mismatch_of(told: &sys::Effect) -> Mismatch {
+    match told.mismatch {
+        sys::MISMATCH_NO_SOURCE => Mismatch::NoSource,
+        sys::MISMATCH_PREFIX => Mismatch::Prefix(told.count),
+        sys::MISMATCH_SUFFIX => Mismatch::Suffix(told.count),
+        sys::MISMATCH_OVERLAP => Mismatch::Overlap,
+        sys::MISMATCH_OTHER_NAME => Mismatch::OtherName,
+        sys::MISMATCH_OBJECT => Mismatch::Object,
+        sys::MISMATCH_NO_CANDIDATE => Mismatch::NoCandidate,
+        _ => Mismatch::EarlierCandidate(told.item),
+    }
+}
+
+fn item_of(index: usize) -> Option<usize> {
+    (index != sys::NO_ITEM).then_some(index)
+}
+
+/// The upstream of a branch, or why it has none.
+#[derive(Clone, PartialEq, Eq, Hash)]
+#[non_exhaustive]
+pub enum Upstream {
+    /// The spec at this index, the first that can, stores the merged ref in this one.
+    Tracked { name: Vec<u8>, spec: usize },
+    /// The negative spec at the index `excluded_by` excludes the merged ref, as Git looks for that, from this spec.
+    Excluded { spec: usize, excluded_by: usize },
+    /// The spec at this index, the first that does, fetches the merged ref, and none stores it.
+    NotStored { spec: usize },
+    /// No positive spec fetches the merged ref.
+    NotFetched,
+}
+
+impl fmt::Debug for Upstream {
+    fn fmt(&self, f: &mut fmt::Formatter<'_>) -> fmt::Result {
+        match self {
+            Upstream::Tracked { name, spec } => {
+                f.debug_struct("Tracked").field("name", &Quoted(name)).field("spec", spec).finish()
+            }
+            Upstream::Excluded { spec, excluded_by } => {
+                f.debug_struct("Excluded").field("spec", spec).field("excluded_by", excluded_by).finish()
+            }
+            Upstream::NotStored { spec } => f.debug_struct("NotStored").field("spec", spec).finish(),
+            Upstream::NotFetched => f.write_str("NotFetched"),
+        }
+    }
+}
+
+/// The upstream of a branch that merges a ref, by the fetch specs of its remote: what `git rev-parse` makes of
+/// `<branch>@{upstream}`. `merge` is the first value of `branch.<name>.merge`. Git compares sides as they are written:
+/// `main` isn't `refs/heads/main` here, and a tracking ref isn't completed. A push is refused.
+///
+/// ```
+/// use refspec::{upstream, Operation, Spec, Upstream};
+///
+/// let specs = [Spec::parse("+refs/heads/*:refs/remotes/origin/*", Operation::Fetch)?];
+/// let found = upstream(&specs, "refs/heads/main")?;
+/// assert_eq!(found, Upstream::Tracked { name: b"refs/remotes/origin/main".to_vec(), spec: 0 });
+/// assert_eq!(upstream(&specs, "main")?, Upstream::NotFetched);
+/// # Ok::<(), refspec::Error>(())
+/// ```
+#[rustfmt::skip]
+pub fn upstream(fetches: &[Spec], merge: impl AsRef<[u8]>) -> Result<Upstream, Error> {
+    let (texts, merge) = (texts_of(fetches)?, merge.as_ref());
+    let mut told = sys::UpstreamRef::default();
+    let name = filled(256, |buffer, len| {
+        let outcome = unsafe {
+            sys::gix_refspec_upstream(
+                texts.as_ptr(), texts.len(), merge.as_ptr(), merge.len(),
+                buffer.as_mut_ptr(), buffer.len(), &mut told,
+            )
+        };
+        *len = told.len;
+        outcome
+    })?;
+    Ok(match told.kind {
+        sys::TRACKED => Upstream::Tracked { name, spec: told.spec },
+        sys::EXCLUDED => Upstream::Excluded { spec: told.spec, excluded_by: told.excluded_by },
+        sys::NOT_STORED => Upstream::NotStored { spec: told.spec },
+        _ => Upstream::NotFetched,
+    })
+}
+
+/// What `git remote rename` makes of a value of `remote.<old_name>.fetch`: the first `:refs/remotes/<old_name>/` in it gets
+/// the new name. `None` if the value doesn't have that: Git then leaves it. Neither the value nor the names are checked.
+///
+/// ```
+/// let value = refspec::renamed("+refs/heads/*:refs/remotes/origin/*", "origin", "up")?;
+/// assert_eq!(value.as_deref(), Some(&b"+refs/heads/*:refs/remotes/up/*"[..]));
+/// # Ok::<(), refspec::Error>(())
+/// ```
+#[rustfmt::skip]
+pub fn renamed(
+    value: impl AsRef<[u8]>, old_name: impl AsRef<[u8]>, new_name: impl AsRef<[u8]>,
+) -> Result<Option<Vec<u8>>, Error> {
+    let (value, old_name, new_name) = (value.as_ref(), old_name.as_ref(), new_name.as_ref());
+    let text = filled(value.len() + new_name.len(), |buffer, len| unsafe {
+        sys::gix_refspec_renamed(
+            value.as_ptr(), value.len(), old_name.as_ptr(), old_name.len(), new_name.as_ptr(), new_name.len(),
+            buffer.as_mut_ptr(), buffer.len(), len,
+        )
+    })?;
+    Ok((!text.is_empty()).then_some(text))
 }
 
 /// The lists of a call that tells of mappings, and how much of them is told.
@@ -1122,6 +1517,85 @@ mod tests {
     }
 
     #[test]
+    fn specs_have_effects() -> Result<(), Error> {
+        let names = ["refs/heads/a", "refs/heads/b", "refs/tags/a", "refs/heads/d/e"];
+        let rows = [
+            ("refs/heads/*:refs/x/*", "refs/tags/a", Fate::Unmatched(Mismatch::Prefix(5)), None),
+            ("refs/heads/*/a:refs/x/*", "refs/heads/d/e", Fate::Unmatched(Mismatch::Suffix(0)), None),
+            ("refs/heads/a*a:refs/x/*", "refs/heads/a", Fate::Unmatched(Mismatch::Overlap), None),
+            ("refs/heads/b", "refs/heads/a", Fate::Unmatched(Mismatch::OtherName), None),
+            ("1111111111111111111111111111111111111111", "refs/heads/a", Fate::Unmatched(Mismatch::Object), None),
+            ("b", "refs/heads/a", Fate::Unmatched(Mismatch::NoCandidate), None),
+            ("a:b", "refs/heads/a", Fate::Unmatched(Mismatch::EarlierCandidate(2)), None),
+            ("^refs/heads/a", "refs/heads/a", Fate::Excludes(None), None),
+            ("^refs/heads/*", "refs/heads/a", Fate::Excludes(Some(11..12)), None),
+            ("refs/heads/*:other/*", "refs/heads/a", Fate::InvalidDestination, Some("other/a")),
+            ("refs/heads/*:refs/x/*", "refs/heads/a", Fate::Written, Some("refs/x/a")),
+        ];
+        for (text, name, fate, destination) in rows {
+            let wanted = [Effect { destination: destination.map(|made: &str| made.as_bytes().to_vec()), fate }];
+            assert_eq!(why(&fetches(&[text])?, &names, name)?.of_specs, wanted, "of {text} and {name}");
+        }
+        let texts = ["refs/heads/*:refs/x/*", "refs/heads/a:refs/x/a", "refs/tags/a:refs/x/b", "refs/heads/b:refs/x/a/b"];
+        let specs = fetches(&texts)?;
+        let fates = |name: &str| -> Result<Vec<Fate>, Error> {
+            Ok(why(&specs, &names, name)?.of_specs.into_iter().map(|one| one.fate).collect())
+        };
+        assert_eq!(fates("refs/heads/a")?[1], Fate::Duplicate { spec: 0 });
+        assert_eq!(fates("refs/heads/a")?[0], Fate::DirectoryConflict(Rival { spec: 3, item: Some(1) }));
+        assert_eq!(fates("refs/heads/b")?[0], Fate::InConflict(Rival { spec: 2, item: Some(2) }));
+        assert_eq!(why(&specs, &names, "refs/heads/gone")?.item, None);
+        assert_eq!(why(&[Spec::parse("a", Operation::Push)?], &names, "a"), Err(Error::Push));
+        Ok(())
+    }
+
+    #[test]
+    fn upstreams_have_reasons() -> Result<(), Error> {
+        let rows = [
+            (&["refs/heads/a:x", "^refs/heads/a"][..], Upstream::Excluded { spec: 0, excluded_by: 1 }),
+            (&["refs/heads/b:x", "refs/heads/a"], Upstream::NotStored { spec: 1 }),
+            (&["a:x"], Upstream::NotFetched),
+            (&["a:x", "refs/heads/*:y/*"], Upstream::Tracked { name: b"y/a".to_vec(), spec: 1 }),
+        ];
+        for (texts, wanted) in rows {
+            assert_eq!(upstream(&fetches(texts)?, "refs/heads/a")?, wanted, "by {texts:?}");
+        }
+        assert_eq!(upstream(&[Spec::parse("a", Operation::Push)?], "a"), Err(Error::Push));
+        Ok(())
+    }
+
+    #[test]
+    fn values_are_prefetched_and_renamed() -> Result<(), Error> {
+        for text in ["refs/tags/*:refs/tags/*", "main"] {
+            assert_eq!(Spec::parse(text, Operation::Fetch)?.prefetched()?, None, "of {text}");
+        }
+        let negative = Spec::parse("^refs/heads/a", Operation::Fetch)?;
+        assert_eq!(negative.prefetched()?, Some(negative.clone()));
+        assert_eq!(Spec::parse("a", Operation::Push)?.prefetched(), Err(Error::Push));
+        assert_eq!(renamed("^refs/remotes/origin/a", "origin", "up")?, None);
+        assert_eq!(renamed("", "", "")?, None);
+        Ok(())
+    }
+
+    #[test]
+    fn specs_are_made_from_parts() -> Result<(), Error> {
+        let delete = Spec::from_parts(Mode::Normal, None, Some(b"a"), Operation::Push)?;
+        assert_eq!(delete, Spec::parse(":a", Operation::Push)?);
+        assert_eq!(Spec::from_parts(Mode::Negative, Some(b"a"), None, Operation::Fetch)?.as_bytes(), b"^a");
+        let bad = Spec::from_parts(Mode::Normal, Some(b"a..b"), None, Operation::Fetch);
+        assert_eq!(bad, Err(Error::NameRepeatedDot));
+        let all = Spec::for_remote(RemoteValue::Mirror { branch: b"*" })?;
+        assert_eq!(all.as_bytes(), b"+refs/*:refs/*");
+        let pulls = Spec::for_remote(RemoteValue::PullRequests { remote: b"up" })?;
+        assert_eq!(pulls.as_bytes(), b"+refs/pull/*/head:refs/remotes/up/pr/*");
+        let merges = Spec::for_remote(RemoteValue::MergeRequests { remote: b"up" })?;
+        assert_eq!(merges.as_bytes(), b"+refs/merge-requests/*/head:refs/remotes/up/merge-requests/*");
+        let odd = Spec::for_remote(RemoteValue::Branch { remote: b"a:b", branch: b"*" });
+        assert_eq!(odd, Err(Error::OtherParts));
+        Ok(())
+    }
+
+    #[test]
     fn errors_have_names() {
         let rows = [
             ("", Operation::Push, Error::Empty),
@@ -1150,7 +1624,7 @@ mod tests {
         }
         assert_eq!(Error::of(99), Error::Other(99));
         assert_eq!(Error::Other(99).outcome(), Some(99));
-        for number in [sys::INVALID_ID + 1, 99, u32::MAX] {
+        for number in [sys::OTHER_PARTS + 1, 99, u32::MAX] {
             let sentence = format!("The library ended with outcome {number}, which it doesn't explain.");
             assert_eq!(Error::of(number).to_string(), sentence);
         }

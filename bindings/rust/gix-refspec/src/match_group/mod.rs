@@ -63,8 +63,7 @@ impl<'spec> MatchGroup<'spec> {
             }
         }
         let names: Vec<&BStr> = items.map(|item| item.full_ref_name).collect();
-        let refs: Vec<_> = names.iter().map(|name| calls::Ref::new(name, b"", b"")).collect();
-        let matched = self.matched(&refs, sys::FORWARD);
+        let matched = self.matched_names(&names);
         let mappings = matched.iter().map(|one| {
             let item_index = (one.item != sys::NO_ITEM).then_some(one.item);
             let spec = &self.specs[one.spec];
@@ -143,6 +142,17 @@ impl<'spec> MatchGroup<'spec> {
             }
             _ => None,
         }
+    }
+
+    /// How the specs map names from left to right, where ids don't count. Fetches need less memory for it.
+    fn matched_names(&self, names: &[&BStr]) -> calls::Mappings {
+        if self.specs.iter().any(|spec| spec.operation() == Operation::Push) {
+            let refs: Vec<_> = names.iter().map(|name| calls::Ref::new(name, b"", b"")).collect();
+            return self.matched(&refs, sys::FORWARD);
+        }
+        let fetches: Vec<_> = self.specs.iter().map(|spec| calls::Text::new(spec.text())).collect();
+        let names: Vec<_> = names.iter().map(|name| calls::Text::new(name)).collect();
+        answered(calls::matched_names(&fetches, &names, sys::FORWARD))
     }
 
     fn matched(&self, refs: &[calls::Ref<'_>], direction: u32) -> calls::Mappings {

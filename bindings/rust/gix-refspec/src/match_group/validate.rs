@@ -1,10 +1,12 @@
 //! Whether mappings can be written.
-use std::fmt;
+use std::{collections::BTreeMap, fmt};
 
 use bstr::{BStr, BString};
+use gix_refspec_sys::{self as sys, calls};
 
 use crate::{
-    match_group::{match_lhs, Source, SourceRef},
+    answered,
+    match_group::{match_lhs, Mapping, Source, SourceRef},
     RefSpec,
 };
 
@@ -95,14 +97,15 @@ impl match_lhs::Outcome<'_, '_> {
     ///     refs/heads/a (\"refs/heads/*:refs/x/*\"), refs/tags/a (\"refs/tags/*:refs/x/*\")");
     /// ```
     pub fn validated(mut self) -> Result<(Self, Vec<Fix>), Error> {
-        let issues = self.issues();
+        let verdicts = self.verdicts();
+        let issues = self.issues(&verdicts);
         if !issues.is_empty() {
             return Err(Error { issues });
         }
         let specs = &self.group.specs;
-        let mut fixes = Vec::new();
-        self.mappings.retain(|mapping| match &mapping.rhs {
-            Some(name) if !is_writable(name) => {
+        let (mut fixes, mut verdicts) = (Vec::new(), verdicts.iter());
+        self.mappings.retain(|mapping| match (verdicts.next(), &mapping.rhs) {
+            (Some(one), Some(name)) if one.verdict == sys::PAIR_REMOVED => {
                 let spec = specs[mapping.spec_index].to_owned();
                 fixes.push(Fix::MappingWithPartialDestinationRemoved { name: name.as_ref().into(), spec });
                 false
@@ -112,32 +115,28 @@ impl match_lhs::Outcome<'_, '_> {
         Ok((self, fixes))
     }
 
-    /// The conflicts, in the byte order of their destinations.
-    fn issues(&self) -> Vec<Issue> {
-        let mut indexes: Vec<usize> =
-            (0..self.mappings.len()).filter(|index| self.destination(*index).is_some()).collect();
-        indexes.sort_unstable_by(|a, b| (self.destination(*a), a).cmp(&(self.destination(*b), b)));
-        let (mut issues, mut rest) = (Vec::new(), &indexes[..]);
-        while let Some(first) = rest.first() {
-            let destination = self.destination(*first);
-            let count = rest.iter().take_while(|index| self.destination(**index) == destination).count();
-            let (rivals, others) = rest.split_at(count);
-            rest = others;
-            let firsts = self.first_of_each_source(rivals);
-            if let (Some(destination), [_, _, ..]) = (destination, &firsts[..]) {
-                issues.push(self.conflict(destination, &firsts));
-            }
-        }
-        issues
+    /// What becomes of each mapping.
+    fn verdicts(&self) -> Vec<sys::PairVerdict> {
+        let pairs: Vec<_> = self.mappings.iter().map(pair_of).collect();
+        answered(calls::validated(&pairs))
     }
 
-    fn destination(&self, index: usize) -> Option<&BStr> {
-        self.mappings[index].rhs.as_ref().map(AsRef::as_ref)
+    /// The conflicts, in the byte order of their destinations.
+    fn issues(&self, verdicts: &[sys::PairVerdict]) -> Vec<Issue> {
+        let in_conflict = verdicts.iter().enumerate().filter(|(_, one)| one.verdict == sys::PAIR_IN_CONFLICT);
+        let mut rivals: BTreeMap<&BStr, Vec<usize>> = BTreeMap::new();
+        for (index, one) in in_conflict {
+            if let Some(destination) = &self.mappings[one.first].rhs {
+                rivals.entry(destination.as_ref()).or_default().push(index);
+            }
+        }
+        let firsts = rivals.iter().map(|(destination, indexes)| (destination, self.first_of_each_source(indexes)));
+        firsts.map(|(destination, indexes)| self.conflict(destination, &indexes)).collect()
     }
 
     /// Of mappings in order, those that are the first with their source.
     fn first_of_each_source(&self, indexes: &[usize]) -> Vec<usize> {
-        let source = |index: usize| SourceKey::of(&self.mappings[index].lhs);
+        let source = |index: usize| key_of(&self.mappings[index].lhs);
         let mut firsts = indexes.to_vec();
         firsts.sort_by(|a, b| source(*a).cmp(&source(*b)));
         firsts.dedup_by(|later, first| source(*later) == source(*first));
@@ -156,22 +155,18 @@ impl match_lhs::Outcome<'_, '_> {
     }
 }
 
-/// A source as sources are told apart.
-#[derive(PartialEq, Eq, PartialOrd, Ord)]
-enum SourceKey<'a> {
-    FullName(&'a BStr),
-    ObjectId(gix_hash::ObjectId),
-}
-
-impl<'a> SourceKey<'a> {
-    fn of(source: &'a SourceRef<'_>) -> Self {
-        match source {
-            SourceRef::FullName(name) => SourceKey::FullName(name.as_ref()),
-            SourceRef::ObjectId(id) => SourceKey::ObjectId(*id),
-        }
+/// A source as sources are told apart: whether it is an id, and its bytes.
+fn key_of<'a>(source: &'a SourceRef<'_>) -> (bool, &'a [u8]) {
+    match source {
+        SourceRef::FullName(name) => (false, name),
+        SourceRef::ObjectId(id) => (true, id.as_slice()),
     }
 }
 
-fn is_writable(destination: &BStr) -> bool {
-    destination.starts_with(b"refs/") || destination == "HEAD"
+fn pair_of<'a>(mapping: &'a Mapping<'_, '_>) -> calls::Pair<'a> {
+    let destination = mapping.rhs.as_ref().map(|name| -> &[u8] { name });
+    match key_of(&mapping.lhs) {
+        (false, name) => calls::Pair::of_name(name, destination),
+        (true, id) => calls::Pair::of_id(id, destination),
+    }
 }
