@@ -363,6 +363,13 @@ fn finds_idle_specs(rt: HostRuntime) -> Result<(), Fail> {
         ),
         // two equal partial names take the same
         ("HEAD:refs/x HEAD:refs/x", "1 as 0\n"),
+    ];
+    check(&rt, ROWS)
+}
+
+#[test]
+fn finds_specs_idle_by_several(rt: HostRuntime) -> Result<(), Fail> {
+    const ROWS: &[(&str, &str)] = &[
         // two of the same name are idle by the first, and one that only several cover by those together
         (
             "refs/heads/a:refs/heads/x refs/heads/*:refs/heads/x/* refs/heads/a:refs/heads/x",

@@ -6,6 +6,7 @@ use gix_refspec::match_group::{MapName, Mapping};
 use gix_refspec::parse;
 use gix_refspec::parsing::Operation;
 use std::alloc::{AllocError, Global};
+use std::process::Abort;
 use std::test::Fail;
 
 // A mapping as rows write it, and nothing where there is none.
@@ -17,9 +18,23 @@ fn line(alloc: Global, mapping: &Option<Mapping<'_, '_>>) -> Result<String, Allo
     Ok(text)
 }
 
+// What Git 2.39.5 writes where the remote has this ref and the command line this spec.
+fn check_maps(rt: &(impl Abort + AllocGlobal), rows: &[(&str, &str, &str)]) -> Result<(), Fail> {
+    let alloc = rt.alloc();
+    for (text, name, expected) in rows {
+        let spec = parse(alloc, BStr::new(text.as_bytes()), Operation::Fetch)?;
+        let mapping = spec.map(alloc, BStr::new(name.as_bytes()))?;
+        assert_eq!(rt;
+            line(alloc, &mapping)?.as_str(),
+            *expected,
+            "{name} by {text}"
+        );
+    }
+    Ok(())
+}
+
 #[test]
-fn maps_one_name(rt: HostRuntime) -> Result<(), Fail> {
-    // What Git 2.39.5 writes where the remote has this ref and the command line this spec.
+fn maps_one_name_by_a_pattern(rt: HostRuntime) -> Result<(), Fail> {
     const ROWS: &[(&str, &str, &str)] = &[
         (
             "+refs/heads/*:refs/remotes/origin/*",
@@ -38,6 +53,14 @@ fn maps_one_name(rt: HostRuntime) -> Result<(), Fail> {
             "",
         ),
         ("refs/heads/a*a:refs/x/*", "refs/heads/a", ""),
+        ("^refs/heads/*", "refs/heads/main", ""),
+    ];
+    check_maps(&rt, ROWS)
+}
+
+#[test]
+fn maps_one_name_by_a_partial_name(rt: HostRuntime) -> Result<(), Fail> {
+    const ROWS: &[(&str, &str, &str)] = &[
         (
             "main:refs/x",
             "refs/heads/main",
@@ -62,24 +85,13 @@ fn maps_one_name(rt: HostRuntime) -> Result<(), Fail> {
             "0 0 refs/remotes/up/HEAD refs/x/up\n",
         ),
         ("up:refs/x/up", "refs/remotes/down/HEAD", ""),
-        ("^refs/heads/*", "refs/heads/main", ""),
         (
             "e69de29bb2d1d6434b8b29ae775ad8c2e48c5391:refs/x/id",
             "refs/heads/main",
             "",
         ),
     ];
-    let alloc = rt.alloc();
-    for (text, name, expected) in ROWS {
-        let spec = parse(alloc, BStr::new(text.as_bytes()), Operation::Fetch)?;
-        let mapping = spec.map(alloc, BStr::new(name.as_bytes()))?;
-        assert_eq!(rt;
-            line(alloc, &mapping)?.as_str(),
-            *expected,
-            "{name} by {text}"
-        );
-    }
-    Ok(())
+    check_maps(&rt, ROWS)
 }
 
 #[test]
