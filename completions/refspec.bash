@@ -3,7 +3,7 @@
 _refspec() {
     local word=${COMP_WORDS[COMP_CWORD]} before=${COMP_WORDS[COMP_CWORD-1]} options
     if [ "$COMP_CWORD" -eq 1 ]; then
-        mapfile -t COMPREPLY < <(compgen -W "check explain canon plan stale track prefixes --help --version" -- "$word")
+        mapfile -t COMPREPLY < <(compgen -W "check explain canon plan stale track prefixes upstream prefetch rename why --help --version" -- "$word")
         return
     fi
     case $before in
@@ -24,6 +24,8 @@ _refspec() {
     stale) options="$options --refs --local" ;;
     track) options="$options --ref" ;;
     prefixes) options="$options --patterns" ;;
+    upstream) options="$options --merge" ;;
+    why) options="$options --ref --refs" ;;
     esac
     mapfile -t COMPREPLY < <(compgen -W "$options" -- "$word")
 }

@@ -2,9 +2,9 @@
 """Makes memory, reads and writes of the program refspec fail in each of its commands, and at each step of `git refspec`, and gives
 it a small stack: tests/faults.py PROGRAM
 
-Each growth of memory is refused in turn, alone and with all later ones; each read and each write fails in turn, is interrupted,
-and takes a byte at a time. A run answers as ever, or writes nothing but what failed, and ends with status 3. Where memory for the
-path of a file runs out, that is the file. On a stack of 64 kB, long texts and many refs are answered.
+Each growth of memory is refused in turn, alone and with all later ones; each read and each write fails in turn, is
+interrupted, and takes a byte at a time; each file in turn can't be opened for want of memory. A run answers as ever, or
+writes nothing but what failed, and ends with status 3. On a stack of 64 kB, long texts and many refs are answered.
 """
 import collections
 import concurrent.futures
@@ -84,10 +84,9 @@ def end_of(case, message):
     return b"git " + message if case.words[0] == "git" else message
 
 
-def failures(case, *messages):
-    """The answers of a run that fails with one of these messages, or as it can't read a file."""
-    named = [b'refspec: cannot read "%s"\n' % name.encode() for name in case.files]
-    return [Answer(b"", message, 3, b"") for message in (*messages, *named)]
+def failures(*messages):
+    """The answers of a run that fails with one of these messages."""
+    return [Answer(b"", message, 3, b"") for message in messages]
 
 
 class Runner:
@@ -118,7 +117,7 @@ class Runner:
 def refuse_growths(runner, library, whole):
     """Each growth refused in turn: a run says just that, or answers as ever."""
     # Before it knows its arguments it speaks of refspec.
-    early = failures(runner.case, NO_MEMORY, *(end_of(runner.case, message) for message in (NO_MEMORY, NOT_READ, NOT_WRITTEN)))
+    early = failures(NO_MEMORY, end_of(runner.case, NO_MEMORY))
     count = 0
     for later in (False, True):
         refused, call, ended = True, 1, 0
@@ -140,7 +139,8 @@ def fail_calls(runner, library, whole):
     answer, told = run()
     runner.expect(answer, [whole], "its calls are counted")
     runner.expect(run(CALLS_MOST="1")[0], [whole], "reads and writes of one byte")
-    unread = failures(runner.case, end_of(runner.case, NOT_READ))
+    named = (b'refspec: cannot read "%s"\n' % name.encode() for name in runner.case.files)
+    unread = failures(end_of(runner.case, NOT_READ), *named)
     for number in range(1, told.count(b"r") + 1):
         answer, _ = run(CALLS_READ=str(number))
         runner.expect(answer, unread, f"read {number} fails")
@@ -155,6 +155,18 @@ def fail_calls(runner, library, whole):
     return len(told)
 
 
+def refuse_files(runner, library, whole):
+    """Each file can't be opened for want of memory in turn: a run says just that, or doesn't need the file."""
+    refused = failures(end_of(runner.case, NO_MEMORY))
+    is_git = runner.case.words[0] == "git"
+    names = [*runner.case.files, *(["asked"] if is_git else [])]
+    for name in names:
+        answer, _ = runner.run(lambda words, **options: runs.run_with(library, words, {"CALLS_OPEN": name}, **options))
+        needs = not is_git or name == "words" or name == "asked" and whole.asked
+        runner.expect(answer, refused if needs else [whole, *refused], f"{name} can't be opened")
+    return len(names)
+
+
 def check(program, libraries, case):
     with tempfile.TemporaryDirectory() as folder:
         runner = Runner(program, folder, case)
@@ -162,7 +174,7 @@ def check(program, libraries, case):
         if whole.status not in (0, 1, 2):
             fail(case, "it runs", whole)
         refuse, calls = libraries
-        return refuse_growths(runner, refuse, whole), fail_calls(runner, calls, whole)
+        return refuse_growths(runner, refuse, whole), fail_calls(runner, calls, whole), refuse_files(runner, calls, whole)
 
 
 def check_stack(program, case):
@@ -202,9 +214,9 @@ def main():
         with concurrent.futures.ThreadPoolExecutor(os.cpu_count()) as pool:
             counts = list(pool.map(lambda case: check(program, (refuse, calls), case), cases))
             list(pool.map(lambda case: check_stack(program, case), large))
-    growths, failed = map(sum, zip(*counts))
-    print(f"faults: {len(cases)} runs of refspec and steps of git refspec, with {growths} growths refused and {failed} reads and"
-          f" writes failed and interrupted, each in turn; {len(large)} large ones on a stack of {STACK} bytes")
+    growths, failed, unopened = map(sum, zip(*counts))
+    print(f"faults: {len(cases)} runs of refspec and steps of git refspec, with {growths} growths and {unopened} files refused and"
+          f" {failed} reads and writes failed and interrupted, each in turn; {len(large)} large ones on a stack of {STACK} bytes")
 
 
 main()
