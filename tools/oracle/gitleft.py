@@ -91,7 +91,7 @@ FATAL = [(CHECKED_OUT, re.compile(r"refusing to fetch into branch '(.*)' checked
          (UNADVERTISED, re.compile("Server does not allow request for unadvertised object"), "unlisted"),
          (FOLLOWED_CONFLICT, re.compile(r"Cannot fetch both .* and .* to (refs/tags/.*)"), "followed"),
          (SHALLOW_TWICE, re.compile("did not send all necessary objects"), None),
-         (FORMATS, re.compile("mismatched algorithms"), None)]
+         (FORMATS, re.compile("mismatched algorithms|does not support this repository's object format"), None)]
 SHALLOW_ROOTS = "because shallow roots are not allowed to be updated"
 BAD_BOOLEAN = re.compile("bad (boolean|numeric) config value")
 # What is refused that Git takes, by the message.
@@ -223,8 +223,12 @@ class Trial:
         expected = dict(self.before.refs)
         for row in self.rows("stale") if prunes else []:
             expected.pop(row["name"], None)
+        tags = self.followed(remote, {name for name in self.before.refs if name not in expected})
         found = {}
         for far, (id_, spec) in updates.items():
+            if remote.is_shallow and f"rejected {far} {SHALLOW_ROOTS}" in self.done.said:
+                found[far] = SHALLOW
+                continue
             target = expected.get(far, "").partition("-> ")[2]
             if target:
                 found[far] = self.kind_of_symbolic(far, target, spec, expected)
@@ -232,14 +236,11 @@ class Trial:
                 expected[target or far] = id_
         for name in set(expected) | set(self.done.refs):
             if expected.get(name) != self.done.refs.get(name):
-                found[name] = self.kind_of(remote, name, updates, expected)
+                found[name] = self.kind_of(remote, name, updates, tags)
         if None in found.values():
             return None
         kinds = [one for one in KINDS if one in found.values()]
-        tags = self.followed(remote)
-        if self.done.status == 1 and "cannot lock ref" in self.done.said and not FAILING & set(kinds):
-            kinds += [one for one, names in ((REFUSED_TAG, self.before.refs), (TAG_BESIDE, updates))
-                      if any(clash(tag, name) for tag in tags for name in names)][:1]
+        kinds += [one for one in self.kinds_of_tags(tags, updates) if one not in kinds]
         if remote.is_shallow and SHALLOW not in kinds and SHALLOW_ROOTS in self.done.said:
             kinds.append(SHALLOW)
         merged = self.short_merges(remote) & {id_ for id_, _ in self.done.heads} - heads
@@ -264,11 +265,16 @@ class Trial:
         found = [gitknown.first_name(merge, names) for merge in partial]
         return {self.world.id_of(remote, names[name]) for name in found if name is not None}
 
-    def kind_of(self, remote, name, updates, expected):
+    def kinds_of_tags(self, tags, updates):
+        """The kind by which a followed tag can't be written. A tag that was pruned before may be followed anew."""
+        locked = [tag for tag in tags if f"cannot lock ref '{tag}'" in self.done.said]
+        return [one for one, names in ((REFUSED_TAG, self.before.refs), (TAG_BESIDE, updates))
+                if any(clash(tag, name) for tag in locked for name in names)][:1]
+
+    def kind_of(self, remote, name, updates, tags):
         """The kind by which a ref isn't as expected."""
         was, is_ = self.before.refs.get(name), self.done.refs.get(name)
         if name not in updates:
-            tags = self.followed(remote)
             through = [id_ for tag, id_ in tags.items() if self.before.refs.get(tag) == f"-> {name}"]
             return FOLLOWED if is_ == tags.get(name, "") else FOLLOWED_THROUGH if is_ in through else None
         id_, spec = updates[name]
@@ -276,13 +282,11 @@ class Trial:
             return None
         if was and is_ is None:
             return DELETED_FIRST if any(row["name"] == name for row in self.rows("pruned")) else self.kind_of_pruning(name)
-        if remote.is_shallow and f"rejected {name} {SHALLOW_ROOTS}" in self.done.said:
-            return SHALLOW
         if name == self.world.here.head() and "can't fetch into checked-out branch" in self.done.said:
             return HEAD_ASIDE
         others = {other for other in {**self.before.refs, **self.done.refs} if clash(name, other)}
         if others:
-            return FOLDERS if others & set(updates) else TAG_BESIDE if others & set(self.followed(remote)) else FOLDER
+            return FOLDERS if others & set(updates) else TAG_BESIDE if others & set(tags) else FOLDER
         if name.startswith("refs/heads/") and id_ in self.tags(remote) and "non-commit object" in self.done.said:
             return TAG_AS_BRANCH
         if was and not spec.startswith("+"):
@@ -292,12 +296,13 @@ class Trial:
     def tags(self, remote):
         return {self.world.id_of(remote, name) for name in remote.names().values() if name.startswith("tag:")}
 
-    def followed(self, remote):
-        """The tags of the remote that are missing here, with their ids, if a spec has a destination: they may be followed."""
+    def followed(self, remote, pruned=frozenset()):
+        """The tags of the remote that are missing here, or were pruned, with their ids, if a spec has a destination: they may be
+        followed."""
         if not any(":" in spec and not spec.endswith(":") for spec in self.specs()):
             return {}
         return {name: self.world.id_of(remote, object_) for name, object_ in remote.names().items()
-                if name.startswith("refs/tags/") and not self.is_here(name)}
+                if name.startswith("refs/tags/") and (name in pruned or not self.is_here(name))}
 
     def is_here(self, name):
         """Whether the ref was here before: a symbolic ref that points nowhere is none."""
