@@ -38,6 +38,8 @@ THROUGH = kind("a spec without a star writes through a symbolic ref", "here symr
                words="o main:refs/x/main")
 THROUGH_BOTH = kind("a spec without a star writes through a symbolic ref that a pattern leaves alone", TRACKING,
                     "here config remote.o.fetch=refs/heads/main:refs/x/main", "here symref refs/x/main refs/x/other")
+THROUGH_TWICE = kind("a symbolic ref whose target is updated too is refused", TRACKING, "here config remote.o.fetch=HEAD:refs/x/HEAD",
+                     "here ref refs/x/main refs/heads/main~", "here symref refs/x/HEAD refs/x/main")
 DANGLING = kind("a symbolic ref whose target is pruned isn't written", TRACKING,
                 "here config remote.o.fetch=HEAD:refs/x/HEAD", "here ref refs/x/gone own",
                 "here symref refs/x/HEAD refs/x/gone", words="--prune o")
@@ -76,12 +78,12 @@ FULL_NAME = kind("a full name is also taken for a partial one", "o ref refs/head
                  words="o refs/heads/dev")
 BOOLEAN_FIRST = kind("a value that isn't a boolean is told before one that isn't a refspec",
                      "here config remote.o.fetch=a..b", "here config fetch.prune=maybe")
-KINDS = [FORCED, CLOBBERED, FOLDER, FOLDERS, TAG_AS_BRANCH, LEFT_ALONE, THROUGH, THROUGH_BOTH, DANGLING, FOLLOWED,
+KINDS = [FORCED, CLOBBERED, FOLDER, FOLDERS, TAG_AS_BRANCH, LEFT_ALONE, THROUGH, THROUGH_BOTH, THROUGH_TWICE, DANGLING, FOLLOWED,
          FOLLOWED_THROUGH, REFUSED_TAG, TAG_BESIDE, FOLLOWED_CONFLICT, CHECKED_OUT, HEAD_ASIDE, NOT_OURS, UNADVERTISED,
          SHALLOW, SHALLOW_TWICE, SHORT_MERGE, FORMATS, DELETED_FIRST, PARTIAL, EXCLUDED, GROUP, OLD_FORM,
          FULL_NAME, BOOLEAN_FIRST]
 # Those by which Git ends with status 1, or may.
-FAILING = {FORCED, CLOBBERED, FOLDER, FOLDERS, TAG_AS_BRANCH, DANGLING, REFUSED_TAG, TAG_BESIDE, HEAD_ASIDE}
+FAILING = {FORCED, CLOBBERED, FOLDER, FOLDERS, TAG_AS_BRANCH, THROUGH_TWICE, DANGLING, REFUSED_TAG, TAG_BESIDE, HEAD_ASIDE}
 UNSURE = {DELETED_FIRST, PARTIAL, EXCLUDED}
 # Those by which tags are in FETCH_HEAD.
 FOLLOWING = {FOLLOWED, FOLLOWED_THROUGH, REFUSED_TAG, TAG_BESIDE, SHALLOW}
@@ -226,13 +228,12 @@ class Trial:
         tags = self.followed(remote, {name for name in self.before.refs if name not in expected})
         found = {}
         for far, (id_, spec) in updates.items():
-            if remote.is_shallow and f"rejected {far} {SHALLOW_ROOTS}" in self.done.said:
-                found[far] = SHALLOW
-                continue
             target = expected.get(far, "").partition("-> ")[2]
-            if target:
+            if self.is_rejected_as_shallow(remote, far):
+                found[far] = SHALLOW
+            elif target:
                 found[far] = self.kind_of_symbolic(far, target, spec, expected)
-            if found.get(far) not in (LEFT_ALONE, DANGLING):
+            if found.get(far) not in (SHALLOW, LEFT_ALONE, DANGLING, THROUGH_TWICE):
                 expected[target or far] = id_
         for name in set(expected) | set(self.done.refs):
             if expected.get(name) != self.done.refs.get(name):
@@ -247,6 +248,11 @@ class Trial:
         kinds += [SHORT_MERGE] * bool(merged)
         return kinds if self.is_status(kinds) and self.are_heads(heads | merged, kinds, updates, tags) else None
 
+    def is_rejected_as_shallow(self, remote, far):
+        """Whether the update isn't made: a tag that is rejected may be followed afterwards."""
+        is_rejected = remote.is_shallow and f"rejected {far} {SHALLOW_ROOTS}" in self.done.said
+        return is_rejected and self.done.refs.get(far) == self.before.refs.get(far)
+
     def kind_of_symbolic(self, far, target, spec, expected):
         """The kind by which a symbolic ref isn't updated itself."""
         single = self.single([*self.specs(), *self.values(r"^remote\..*\.fetch$")])
@@ -254,6 +260,8 @@ class Trial:
             return LEFT_ALONE
         if target in self.before.refs and target not in expected:
             return DANGLING
+        if f"cannot lock ref '{far}': is at" in self.done.said:
+            return THROUGH_TWICE
         return THROUGH_BOTH if "*" in spec else THROUGH
 
     def short_merges(self, remote):
