@@ -41,6 +41,10 @@ OPTIONS = {
     "stale": ["--json", "-z", "--read-z", "--refs", "--local", "--specs"],
     "track": ["--json", "-z", "--read-z", "--ref", "--specs"],
     "prefixes": ["--json", "--patterns", "--push", "-z", "--read-z", "--specs"],
+    "upstream": ["--json", "-z", "--read-z", "--merge", "--specs"],
+    "prefetch": ["--json", "-z", "--read-z", "--specs"],
+    "rename": ["--json", "-z", "--read-z", "--specs"],
+    "why": ["--json", "-z", "--read-z", "--ref", "--refs", "--specs"],
 }
 GIT_OPTIONS = {
     "check": ["-v", "-z", "--json", "--push", "--strict", "--no-warnings", "--remote"],
@@ -51,7 +55,7 @@ GIT_OPTIONS = {
 }
 FILES = ("--specs", "--refs", "--configured", "--local")
 # Without these two kinds of specs and names, a call is of a group that is as people have them.
-NEEDED = {"stale": "--local", "track": "--ref"}
+NEEDED = {"stale": "--local", "track": "--ref", "upstream": "--merge", "why": "--ref"}
 REMOTES = [b"origin", b"origin", b"origin", b"r", b"up/stream", b"../remote", b"a b", b""]
 
 
@@ -146,12 +150,14 @@ class Given:
         self.end = b"\0" if {"-z", "--read-z"} & set(chosen) else b"\n"
         self.words, self.files = [], {}
         arguments = [as_argument(text) for text in call.some_specs()] if random_.random() < 0.6 else []
+        if command == "rename" and random_.random() < 0.95:
+            arguments[:0] = [as_argument(random_.choice(REMOTES)) for _ in range(2)]
         for option in chosen:
             self.words += [option, *self.value(option, call)]
         for word in arguments:
             self.words.insert(random_.randint(0, len(self.words)) if random_.random() < 0.2 else len(self.words), word)
         self.words.insert(0, command)
-        self.input = self.contents("--refs" if command in ("plan", "stale") else "--specs", call)
+        self.input = self.contents("--refs" if command in ("plan", "stale", "why") else "--specs", call)
         if "--config" in chosen:
             self.input = call.config()
         self.is_json = "--json" in self.words
