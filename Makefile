@@ -147,7 +147,7 @@ uninstall-lib:
 	@rm -rf $(CMAKE_FOLDER) $(TO)/share/doc/gix_refspec
 
 test-bindings: kit
-	@tests/bindings.sh
+	@tests/bindings/bindings.sh
 
 # Packages, each the same bytes at each run: the times in them are SOURCE_DATE_EPOCH, or that of the last commit. Their programs
 # need no library. Those for arm64, and its library, are made where Debian's compiler for it is.
@@ -191,7 +191,7 @@ $(ARM)/lib/libgix_refspec.a: $(ARCHIVE) tools/build.py tools/archive.sh $(RUNTIM
 	@tools/archive.sh $(@D) $(SONAME) aarch64
 
 test-dist: dist
-	@tests/packages.sh $(DIST)
+	@tests/packages/packages.sh $(DIST)
 
 clean:
 	rm -rf $(LOGS) crates/*/out

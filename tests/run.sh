@@ -1,5 +1,5 @@
 #!/bin/bash
-# Runs the scripts of this folder over the built program refspec_map, over the built tests of gix_refspec_tests, over the
+# Runs the scripts below this folder over the built program refspec_map, over the built tests of gix_refspec_tests, over the
 # built program refspec, and those of the bindings and packages: tests/run.sh PROGRAM TESTS REFSPEC
 # Four lists of them run side by side, each with its output in one piece. A script that fails doesn't end the run: all that
 # failed are listed at the end.
@@ -19,35 +19,36 @@ try() {
 }
 
 of_program() {
-    for script in words answers replay agree git git-rows stack devices memory; do
-        try "$script.py" "$program"
+    for script in words answers replay agree git git_rows stack devices memory; do
+        try "refspec_map/$script.py" "$program"
     done
     for script in growths large; do
-        try "$script.py" "$tests"
+        try "library/$script.py" "$tests"
     done
 }
 
 of_refspec() {
-    for script in refspec replay-refspec git-refspec git-plans lint completions faults interrupted ../tools/fuzz/calls; do
-        try "$script.py" "$refspec"
+    for script in refspec replay git_refspec git_plans lint completions faults interrupted; do
+        try "refspec/$script.py" "$refspec"
     done
-    try schema.py
-    try git-remotes.py
-    try git-fates.py
+    try ../tools/fuzz/calls.py "$refspec"
+    try refspec/schema.py
+    try library/git_remotes.py
+    try library/git_fates.py
 }
 
 of_library() {
-    try bindings.sh
-    try corpus.sh
-    try versus.sh
-    try drop-in.sh
-    try conformance.sh "$program" "$refspec"
-    try readme.py "$program" "$refspec"
+    try bindings/bindings.sh
+    try library/corpus.sh
+    try library/versus.sh
+    try bindings/drop-in.sh
+    try library/conformance.sh "$program" "$refspec"
+    try packages/readme.py "$program" "$refspec"
 }
 
 of_packages() {
-    try runtime.sh
-    try packages.sh
+    try packages/runtime.sh
+    try packages/packages.sh
 }
 
 for list in of_program of_refspec of_library of_packages; do

@@ -1,5 +1,5 @@
 #!/bin/bash
-# Unpacks from Debian 12 what tests/arm64.sh runs Python with: tools/arm64-root.sh [PACKAGE..]
+# Unpacks from Debian 12 what tests/bindings/arm64.sh runs Python with: tools/arm64-root.sh [PACKAGE..]
 #
 # Nothing is installed, and the lists of apt stay as they are. Into gix_refspec/debian-arm64 of the user's cache go the C library,
 # Python with ctypes, and what PACKAGE names: libstd-rust-dev is the standard library for arm64 of Debian's Rust. It isn't in this

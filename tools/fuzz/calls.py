@@ -22,11 +22,11 @@ import tempfile
 sys.dont_write_bytecode = True
 HERE = os.path.dirname(os.path.abspath(__file__))
 TOP = os.path.join(HERE, os.pardir, os.pardir)
-sys.path[:0] = [os.path.join(TOP, "tools", "oracle"), os.path.join(TOP, "tests")]
+sys.path[:0] = [os.path.join(TOP, "tools", "oracle"), os.path.join(TOP, "tests"), os.path.join(TOP, "tests", "refspec")]
 import groups
 import original
-import scripted
 import specs
+from helpers import scripted
 from processes import Failed, Program
 from schema import Objects
 

@@ -14,7 +14,7 @@ SAMPLES = os.path.join(os.path.dirname(os.path.abspath(__file__)), os.pardir, os
 STORED = os.path.join(SAMPLES, "fuzz.sample")
 HEAD = """\
 # Inputs of tools/fuzz/harness.c, separated by empty lines: few that reach the blocks of the library which all that were tried
-# reach. tests/corpus.sh replays them. A byte beyond the printable ones of ASCII, the backslash, and a space at the end of a line
+# reach. tests/library/corpus.sh replays them. A byte beyond the printable ones of ASCII, the backslash, and a space at the end of a line
 # are written \\xHH. Packed by tools/fuzz/corpus.py; tools/fuzz/README.md says how they are found.
 """
 LETTERS = {"given": b"g", "configured": b"c", "merge": b"m", "local": b"l"}

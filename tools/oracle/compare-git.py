@@ -8,7 +8,7 @@ The lists are generated from a seed, so many for each of the two. They leave out
 writes refs: a name that is a folder for another, and an annotated tag as a branch. A partial source is fetched with
 each set of its candidates too. It needs git and python3, and no network.
 
-With --samples FOLDER it writes git.sample for tests/git.py: the smallest list of each known kind, and lists of many
+With --samples FOLDER it writes git.sample for tests/refspec_map/git.py: the smallest list of each known kind, and lists of many
 forms among those where both agree.
 """
 import argparse

@@ -9,7 +9,7 @@ example has to show its conflict, and exactly the specs that never do anything h
 exclude nothing have no such warning if they may exclude a tag, or have the warning that they exclude no branch. Prints
 counts by kind.
 
-With --samples FOLDER it writes lint.sample for tests/lint.py: the shortest group of each class, by its warnings and its kinds
+With --samples FOLDER it writes lint.sample for tests/refspec/lint.py: the shortest group of each class, by its warnings and its kinds
 of sides, and others.
 """
 import argparse

@@ -9,7 +9,7 @@ gitknown.py has to tell all that it does. Any other difference is a failure.
 The cases are generated from a seed, so many for each of the two. They leave out what git refuses only as it writes
 refs: a name that is a folder for another, and an annotated tag as a branch. It needs git and python3, and no network.
 
-With --samples FOLDER it writes git-plans.sample for tests/git-plans.py: the smallest case of each known kind, and cases
+With --samples FOLDER it writes git-plans.sample for tests/refspec/git_plans.py: the smallest case of each known kind, and cases
 of many forms among those where both agree.
 """
 import argparse

@@ -6,7 +6,7 @@ seed and its number. What `git fetch` writes there, into refs and FETCH_HEAD, ha
 failure; what `git fetch --prune` deletes has to be what `stale` lists. What a plan leaves to Git, and where else Git is known to
 differ, a rule of gitleft.py tells from the situation. Any other difference is shown, made smaller, and is a failure.
 
-With --record FILE it puts the answers into situations.sample, the situations that tests/git-plans.py tries, to be read before
+With --record FILE it puts the answers into situations.sample, the situations that tests/refspec/git_plans.py tries, to be read before
 they are committed. With --try FILE it tries the situation whose lines are in the file, or on the standard input for `-`.
 """
 import argparse

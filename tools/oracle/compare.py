@@ -6,7 +6,7 @@ that isn't made of what this program's `lhs` maps, and an answer that has both p
 source has to make them differ.
 
 With --samples FOLDER it writes the texts and groups of tests and a part of the generated ones, with the
-original's answers, for tests/replay.py. Where the two differ in known kinds, it writes these kinds and this
+original's answers, for tests/refspec_map/replay.py. Where the two differ in known kinds, it writes these kinds and this
 program's answer.
 """
 import argparse
@@ -270,7 +270,7 @@ def main():
     parser.add_argument("--groups", type=int, default=20_000, help="how many random groups")
     parser.add_argument("--seed", type=int, default=1)
     parser.add_argument("--jobs", type=int, default=2, help="how many groups are asked about at a time")
-    parser.add_argument("--samples", help="a folder to write the samples for tests/replay.py into")
+    parser.add_argument("--samples", help="a folder to write the samples for tests/refspec_map/replay.py into")
     parser.add_argument("--sample-size", type=int, default=600, help="texts of the one; a quarter as many groups")
     options = parser.parse_args()
     original.need("compare", options.original, options.program)

@@ -1,0 +1,89 @@
+#!/usr/bin/env python3
+"""Gives the rows of the tests of gix_refspec_remote to the installed Git: tests/library/git_remotes.py
+
+The tests hold the library against these rows, and Git has to do what they say: which upstream a branch has, what a prefetch
+fetches, what `git remote rename` makes of a value, and which values `git remote add` writes. Without a git on the PATH nothing is
+compared.
+"""
+import os
+import re
+import shutil
+import sys
+import tempfile
+
+HERE = os.path.dirname(os.path.dirname(os.path.abspath(__file__)))
+ROWS = os.path.join(HERE, os.pardir, "crates", "gix_refspec_remote_tests", "src", "tests")
+sys.dont_write_bytecode = True
+sys.path.insert(0, os.path.join(HERE, os.pardir, "tools", "oracle"))
+import gitremotes
+
+TABLE = re.compile(r"^ *const (\w+): &\[\((.*?)\)\] = &\[(.*?)^ *\];", re.M | re.S)
+CELL = re.compile(r'"((?:[^"\\]|\\.)*)"|(None)')
+REFS = [b"HEAD", b"refs/heads/main", b"refs/heads/x", b"refs/tags/t", b"refs/remotes/o/x"]
+
+
+def rows(name, table="ROWS"):
+    """The rows of a table in a file of tests: their texts, with None for a missing one."""
+    with open(os.path.join(ROWS, name + ".rt"), encoding="utf-8") as file:
+        types, lines = next(found[1:] for found in TABLE.findall(file.read()) if found[0] == table)
+    cells, width = [None if none else text.encode() for text, none in CELL.findall(lines)], types.count("&str")
+    if not cells or len(cells) % width:
+        sys.exit(f"tests/library/git_remotes.py: {len(cells)} texts in the table {table} of {name}.rt, whose rows have {width}")
+    return [cells[index:index + width] for index in range(0, len(cells), width)]
+
+
+def expect(row, seen, wanted):
+    if seen != wanted:
+        sys.exit(f"tests/library/git_remotes.py: {row}: git {seen!r}, and not {wanted!r}")
+
+
+def try_upstreams(remotes):
+    for row in rows("upstreams"):
+        merge, specs, answer = row
+        found = re.fullmatch(rb"(\S+) by \d+", answer)
+        expect(row, remotes.upstreams(specs.split(), [merge]), [found[1] if found else b""])
+    for row in rows("upstreams", "OTHERWISE"):
+        expect(row, remotes.upstreams(row[1].split(), row[:1]), [b""])
+
+
+def try_prefetches(remotes):
+    remote = remotes.store.remote(remotes.store.refs(REFS))
+    for row in rows("prefetching"):
+        value, made = row
+        wanted = remotes.fetched(remote, [made]) if made else gitremotes.NOTHING
+        expect(row, remotes.prefetched(remote, [value]), wanted)
+    expect("main:", remotes.prefetched(remote, [b"main:"]), gitremotes.NOTHING)
+    expect("gone:", remotes.prefetched(remote, [b"gone:"]).failure, ("missing", b"gone"))
+
+
+def try_renames(remotes):
+    for row in rows("renames"):
+        value, old, new, made = row
+        expect(row, remotes.renamed([value], old, new), ([made or value], [] if made else [value]))
+    row = [b"", b"refs/heads/*:refs/remotes/o/*"]
+    expect(row, remotes.renamed(row, b"o", b"n"), ([b"refs/heads/*:refs/remotes/n/*"], [b""]))
+
+
+def try_remotes(remotes):
+    for row in rows("remotes"):
+        remote, branch, made = row
+        values = remotes.added(remote or b"any", [branch], not remote)
+        if made:
+            expect(row, values, [made])
+        elif values:
+            expect(row, remotes.accepts(values[0]), False)
+
+
+def main():
+    if shutil.which("git") is None:
+        print("git-remotes: left out, as there is no git on the PATH")
+        return
+    with tempfile.TemporaryDirectory() as folder:
+        remotes = gitremotes.Remotes(folder)
+        for part in (try_upstreams, try_prefetches, try_renames, try_remotes):
+            part(remotes)
+    counts = [len(rows(name)) for name in ("upstreams", "prefetching", "renames", "remotes")]
+    print("git-remotes: git does what the rows of the tests say: {} upstreams, {} prefetches, {} renames, {} specs of remotes".format(*counts))
+
+
+main()

@@ -1,0 +1,612 @@
+#!/usr/bin/env python3
+"""Tries `git refspec`: tests/refspec/git_refspec.py [--record | --stored] PROGRAM
+
+Replays the calls of samples/git-refspec.sample in repositories that are made here, each in a UTF-8 locale and in C. Compares
+what `git refspec plan` and `git refspec stale` say with what `git fetch --dry-run`, `git fetch` and `git fetch --prune` do.
+Runs the synopses and the examples of the manual page, looks at the line that a terminal gets after two seconds, and completes
+words in bash, zsh and fish, if they are there. With --record the answers are put into the sample, to be read before they are
+committed; with --stored the sample is replayed, and no more.
+
+PROGRAM is the built program refspec. Left out where there is no Git.
+"""
+import concurrent.futures
+import difflib
+import json
+import os
+import pty
+import re
+import resource
+import shutil
+import subprocess
+import sys
+import tempfile
+
+HERE = os.path.dirname(os.path.dirname(os.path.abspath(__file__)))
+TOP = os.path.join(HERE, "..")
+SCRIPT = os.path.join(TOP, "bin", "git-refspec")
+SAMPLE = os.path.join(HERE, "samples", "git-refspec.sample")
+LOCALES = ("C.UTF-8", "C")
+BRANCHES = 5_000
+# Branches beside these: with quotes, bytes of UTF-8, and below folders.
+ODD = ["main", 'quo"te', "tab-less", "b/c/d", "\u00e9t\u00e9", "wip/a", "wip/b"]
+# The fetch values of a remote.
+PLANS = [
+    ["+refs/heads/*:refs/remotes/origin/*"],
+    ["+refs/heads/*:refs/remotes/origin/*", "^refs/heads/wip/*"],
+    ["+refs/heads/main:refs/remotes/origin/main", "+refs/tags/*:refs/tags/*"],
+    ["refs/heads/b/*:refs/x/*", "main:refs/y/main"],
+]
+BRANCH_VALUES = ["+refs/heads/*:refs/remotes/origin/*"]
+MERGE = {"branch.main.remote": "origin", "branch.main.merge": "refs/heads/main"}
+# The fetch values of a remote, other settings, and the words of a fetch from it.
+FETCHES = [
+    (BRANCH_VALUES, {}, ["main"]),
+    (BRANCH_VALUES, {}, ["main", "wip/a", "wip/b", "^refs/heads/wip/a"]),
+    ([*BRANCH_VALUES, "^refs/heads/main"], {}, ["main"]),
+    ([*BRANCH_VALUES, "^refs/heads/main"], MERGE, []),
+    (BRANCH_VALUES, {}, ["main:refs/remotes/origin/wip/a", "wip/a"]),
+    (BRANCH_VALUES, {}, ["--refmap=refs/heads/*:refs/y/*", "main"]),
+    (BRANCH_VALUES, {}, ["--refmap=", "main"]),
+    (BRANCH_VALUES, {}, ["nosuch", "main"]),
+    (BRANCH_VALUES, {}, ["refs/heads/main:refs/x/y", "refs/heads/wip/a:refs/x/y"]),
+    (["+refs/heads/main:refs/x/y", "+refs/heads/wip/a:refs/x/y"], {}, ["main", "wip/a"]),
+    (["+refs/heads/nosuch:refs/x/y"], {}, ["main"]),
+    (["+refs/heads/nosuch:refs/x/y"], {}, []),
+    (BRANCH_VALUES, {"remote.origin.tagOpt": "--tags"}, ["main"]),
+    (BRANCH_VALUES, {"remote.origin.tagOpt": "--TAGS"}, []),
+    (BRANCH_VALUES, {"remote.origin.pruneTags": "true"}, []),
+    (BRANCH_VALUES, {"fetch.pruneTags": "1"}, ["main"]),
+    (BRANCH_VALUES, {"fetch.pruneTags": "true", "remote.origin.pruneTags": "off"}, []),
+    (["+refs/heads/wip/*:refs/remotes/origin/wip/*"], MERGE, []),
+    (["+refs/heads/wip/*:refs/remotes/origin/wip/*"], {**MERGE, "branch.main.merge": "main"}, []),
+    (["+refs/heads/wip/*:refs/remotes/origin/wip/*"], {**MERGE, "branch.main.merge": "refs/heads/nosuch"}, []),
+    ([], MERGE, []),
+    ([], {}, []),
+    (BRANCH_VALUES, {}, ["main:heads/x", "wip/a:tags/x", "wip/b:remotes/x", "b/c/d:x"]),
+    (BRANCH_VALUES, {}, ["refs/heads/*:x/*"]),
+]
+ALL_BUT_WIP = [*BRANCH_VALUES, "^refs/heads/wip/*"]
+GONE, WIP = "refs/remotes/origin/gone", "refs/remotes/origin/wip/gone"
+# The fetch values of a remote, other settings, the specs of a fetch, refs here, and those of them that a pruning fetch deletes.
+PRUNED = [
+    (BRANCH_VALUES, {}, [], [GONE, "refs/remotes/origin/main", "refs/heads/mine"], {GONE}),
+    (ALL_BUT_WIP, {}, [], [GONE, WIP], {GONE}),
+    ([*BRANCH_VALUES, "+refs/tags/*:refs/remotes/origin/*"], {}, [], ["refs/remotes/origin/noted", GONE], {GONE}),
+    (["+refs/tags/*:refs/tags/*"], {}, [], ["refs/tags/mine", GONE], {"refs/tags/mine"}),
+    (BRANCH_VALUES, {"fetch.pruneTags": "true"}, [], ["refs/tags/mine", GONE], {"refs/tags/mine", GONE}),
+    (BRANCH_VALUES, {"fetch.pruneTags": "true"}, ["main"], ["refs/tags/mine", GONE], set()),
+    (BRANCH_VALUES, {}, ["refs/heads/wip/*:refs/y/*"], [GONE, "refs/y/gone"], {"refs/y/gone"}),
+    (BRANCH_VALUES, {}, ["refs/heads/*:refs/y/*", "^refs/heads/wip/*"], [GONE, "refs/y/gone", "refs/y/wip/gone"], {"refs/y/gone"}),
+    (["+refs/heads/gone:refs/remotes/origin/gone"], {}, [], [GONE], set()),
+    ([*BRANCH_VALUES, "+refs/heads/gone:refs/x/gone"], {}, [], [GONE, "refs/x/gone"], set()),
+    ([*BRANCH_VALUES, "+refs/tags/noted:refs/remotes/origin/main"], {}, [], [GONE], set()),
+]
+# What FETCH_HEAD calls a ref.
+KINDS = ((b"branch '", b"refs/heads/"), (b"tag '", b"refs/tags/"), (b"remote-tracking branch '", b"refs/remotes/"), (b"'", b""))
+# A line of a dry run: what becomes of a ref, its name on the remote and the one here, both without the usual folders.
+TOLD = re.compile(rb" [ +*] (?:\[.*?\]|\S+) +(\S+) +-> (\S+)")
+USUAL = re.compile(rb"^refs/(heads|tags|remotes)/")
+
+
+def fail(what):
+    sys.exit(f"tests/refspec/git_refspec.py: {what}")
+
+
+def environment(program, locale="C"):
+    kept = {name: value for name, value in os.environ.items() if not name.startswith(("GIT_", "LC_", "LANG"))}
+    date = "2020-01-01T00:00:00Z"
+    return {**kept, "GIT_REFSPEC_PROGRAM": program, "GIT_CONFIG_GLOBAL": os.devnull, "GIT_CONFIG_NOSYSTEM": "1", "LC_ALL": locale,
+            "GIT_AUTHOR_NAME": "a", "GIT_AUTHOR_EMAIL": "a@b", "GIT_AUTHOR_DATE": date, "GIT_COMMITTER_NAME": "a",
+            "GIT_COMMITTER_EMAIL": "a@b", "GIT_COMMITTER_DATE": date, "GIT_ADVICE": "0",
+            "PATH": os.path.dirname(SCRIPT) + os.pathsep + os.environ["PATH"]}
+
+
+def shell(command, folder, variables):
+    return subprocess.run(["sh", "-c", command], cwd=folder, env=variables, stdin=subprocess.DEVNULL, capture_output=True,
+                          timeout=50, check=False)
+
+
+def make_remote(path, variables):
+    """The repository that the parts of the sample find beside their folders."""
+    made = shell(f"""set -e; git init -q -b main '{path}'; cd '{path}'; git commit -q --allow-empty -m one; git branch dev
+        git branch topic/a; git tag -a -m note v1; git tag v2; git pack-refs --all; rm -rf .git/hooks .git/logs""", None, variables)
+    if made.returncode:
+        fail(f"no remote: {made.stderr!r}")
+
+
+class Sample:
+    """The parts of the sample, as lists of lines."""
+
+    def __init__(self, program):
+        with open(SAMPLE, "rb") as file:
+            self.blocks = [block.split(b"\n") for block in file.read().rstrip(b"\n").split(b"\n\n")]
+        self.program = program
+
+    def parts(self):
+        return [number for number, block in enumerate(self.blocks) if block[0].startswith(b"= ")]
+
+    def calls(self, number):
+        """The commands of a part, each with its mark and the lines of its answer."""
+        calls = []
+        for line in self.blocks[number][1:]:
+            if line[:2] in (b"+ ", b"$ "):
+                calls.append([line, []])
+            else:
+                calls[-1][1].append(line)
+        return calls
+
+    def replay(self, number, locale):
+        """The lines of a part as they are answered now."""
+        variables = environment(self.program, locale)
+        lines = [self.blocks[number][0]]
+        with tempfile.TemporaryDirectory() as folder:
+            here = os.path.join(folder, "here")
+            os.mkdir(here)
+            shutil.copytree(Sample.remote, os.path.join(folder, "remote"))
+            for call, _ in self.calls(number):
+                made = shell(os.fsdecode(call[2:]), here, variables)
+                if call.startswith(b"+"):
+                    if made.returncode:
+                        fail(f"{call!r}: status {made.returncode}: {made.stderr!r}")
+                    lines.append(call)
+                    continue
+                if call.startswith(b"$ git refspec") and b"--json" in call and b"|" not in call:
+                    self.check_json(call, made.stdout)
+                lines += [call, *marked(b">", made.stdout, folder), *marked(b"!", made.stderr, folder)]
+                lines += [b"? %d" % made.returncode] if made.returncode else []
+        return lines
+
+    @staticmethod
+    def check_json(call, output):
+        for line in output.splitlines():
+            if "kind" not in json.loads(line):
+                fail(f"{call!r}: an object without a kind: {line!r}")
+
+    def replay_all(self, record):
+        parts = self.parts()
+        with concurrent.futures.ThreadPoolExecutor(os.cpu_count()) as pool:
+            runs = {(number, locale): pool.submit(self.replay, number, locale) for number in parts for locale in LOCALES}
+        wrong = 0
+        for (number, locale), run in runs.items():
+            lines = run.result()
+            if record and locale == LOCALES[0]:
+                self.blocks[number] = lines
+            elif lines != self.blocks[number]:
+                wrong += 1
+                print(f"git-refspec: in {locale}:", file=sys.stderr)
+                show_difference(self.blocks[number], lines)
+        if record:
+            with open(SAMPLE, "wb") as file:
+                file.write(b"\n\n".join(b"\n".join(block) for block in self.blocks) + b"\n")
+        if wrong:
+            fail(f"{wrong} parts of the sample are answered otherwise")
+        return sum(len([call for call, _ in self.calls(number) if call.startswith(b"$")]) for number in parts)
+
+
+def marked(mark, text, folder):
+    """The lines of an answer, each after a mark, with the folder of the part left out of paths."""
+    text = text.replace(os.fsencode(os.path.realpath(folder)), b"").replace(os.fsencode(folder), b"")
+    lines = text.split(b"\n")
+    if lines[-1] == b"":
+        lines.pop()
+    return [mark + b" " + line if line else mark for line in lines]
+
+
+def show_difference(wanted, found):
+    texts = ([ascii(line)[2:-1] for line in lines] for lines in (wanted, found))
+    print("\n".join(difflib.unified_diff(*texts, "wanted", "found", lineterm="")), file=sys.stderr)
+
+
+class Repositories:
+    """A remote with many refs, and local repositories that know it as `origin`."""
+
+    def __init__(self, folder, program):
+        self.folder, self.environment = folder, environment(program)
+        self.remote = os.path.join(folder, "remote")
+        subprocess.run(["git", "init", "-q", "-b", "main", self.remote], env=self.environment, check=True)
+        self.git(self.remote, "commit", "-q", "--allow-empty", "-m", "one")
+        commit = self.git(self.remote, "rev-parse", "HEAD").decode().strip()
+        names = [f"refs/heads/topic/{number}" for number in range(BRANCHES)] + [f"refs/heads/{name}" for name in ODD[1:]]
+        lines = "".join(f"create {name}\0{commit}\0" for name in names)
+        subprocess.run(["git", "-C", self.remote, "update-ref", "-z", "--stdin"], input=lines.encode(),
+                       env=self.environment, check=True)
+        self.git(self.remote, "tag", "light")
+        self.git(self.remote, "tag", "-a", "-m", "note", "noted")
+        self.git(self.remote, "pack-refs", "--all")
+
+    def run(self, folder, *words):
+        return subprocess.run(["git", "-C", folder, *words], env=self.environment, capture_output=True, check=False)
+
+    def git(self, folder, *words, status=0):
+        made = self.run(folder, *words)
+        if made.returncode != status:
+            fail(f"git {words}: status {made.returncode}: {made.stderr!r}")
+        return made.stdout
+
+    def local(self, name, specs, settings=()):
+        """A new local repository whose remote has these fetch values, with these settings."""
+        path = os.path.join(self.folder, name)
+        subprocess.run(["git", "init", "-q", "-b", "main", path], env=self.environment, check=True)
+        self.git(path, "config", "remote.origin.url", self.remote)
+        self.git(path, "config", "remote.origin.tagOpt", "--no-tags")
+        for spec in specs:
+            self.git(path, "config", "--add", "remote.origin.fetch", spec)
+        for key, value in dict(settings).items():
+            self.git(path, "config", "--add", key, value)
+        return path
+
+    def compare(self, path, specs):
+        """What is planned is what a dry run tells and what Git writes. Returns how many refs that are."""
+        fields = self.git(path, "refspec", "plan", "-z").split(b"\0")[:-1]
+        theirs = dict(reversed(line.split(b"\t")) for line in self.git(path, "ls-remote", "origin").splitlines())
+        ours = self.refs(path)
+        # A dry run tells changes alone.
+        changes = {(USUAL.sub(b"", source), USUAL.sub(b"", name)) for source, name in zip(fields[::4], fields[1::4])
+                   if theirs.get(source, b"") != ours.get(name)}
+        dry = self.run(path, "-c", "fetch.output=full", "fetch", "--dry-run")
+        rows = [TOLD.fullmatch(line) for line in dry.stderr.splitlines() if line[:1] == b" "]
+        if dry.returncode != 0 or None in rows:
+            fail(f"{specs}: a dry run: status {dry.returncode}: {dry.stderr[-500:]!r}")
+        self.differ(specs, "a dry run", changes, {row.groups() for row in rows})
+        self.git(path, "fetch", "-q")
+        written = self.refs(path)
+        self.differ(specs, "a fetch", {(name, theirs.get(source, b"")) for source, name in zip(fields[::4], fields[1::4])},
+                    set(written.items()))
+        return len(written)
+
+    def fetch(self, path, words):
+        """What is planned of a call is what it writes; it fails where the plan says so, and then nothing is written."""
+        options = [word for word in words if word.startswith("--")]
+        specs = [word for word in words if not word.startswith("--")]
+        planned = self.run(path, "refspec", "plan", "-z", *options, "origin", *specs)
+        fields = planned.stdout.split(b"\0")[:-1]
+        theirs = dict(reversed(line.split(b"\t")) for line in self.git(path, "ls-remote", "origin").splitlines())
+        made = self.run(path, "fetch", "-q", *options, "origin", *specs)
+        is_refused = b"missing: " in planned.stderr or b"conflict: " in planned.stderr
+        if is_refused != (made.returncode != 0):
+            fail(f"{words}: the plan and a fetch: {planned.stderr!r}, {made.stderr!r}")
+        self.differ(words, "a fetch", {(name, theirs[source]) for source, name in zip(fields[::4], fields[1::4]) if name},
+                    set(self.refs(path).items()))
+        # Values that are applied to what given specs take aren't in FETCH_HEAD.
+        beside = b"configured" if specs else b""
+        self.differ(words, "FETCH_HEAD", {source for source, origin in zip(fields[::4], fields[3::4]) if origin != beside},
+                    set() if is_refused else self.fetched(path))
+
+    @staticmethod
+    def fetched(path):
+        """The refs that FETCH_HEAD has."""
+        with open(os.path.join(path, ".git", "FETCH_HEAD"), "rb") as file:
+            notes = [line.split(b"\t", 2)[2] for line in file]
+        names = set()
+        for note in notes:
+            kinds = [(kind, folder) for kind, folder in KINDS if note.startswith(kind)]
+            names |= {folder + note[len(kind):].split(b"' of ")[0] for kind, folder in kinds[:1]} or {b"HEAD"}
+        return names
+
+    def prune(self, path, specs, names, stale):
+        """What `stale` lists, and a plan too, is what a pruning fetch deletes."""
+        self.git(path, "fetch", "-q", "origin", "refs/heads/main:refs/kept")
+        for name in names:
+            self.git(path, "update-ref", name, "refs/kept")
+        self.git(path, "symbolic-ref", "refs/remotes/origin/symbolic", "refs/kept")
+        listed = self.run(path, "refspec", "stale", "-z", "origin", *specs)
+        told = set(listed.stdout.split(b"\0")[:-1])
+        planned = self.run(path, "refspec", "plan", "-z", "--prune", "origin", *specs)
+        fields = planned.stdout.split(b"\0")[:-1]
+        self.differ(names, "a plan", {name for name, what in zip(fields[1::4], fields[3::4]) if what == b"stale"}, told)
+        before = set(self.refs(path))
+        made = self.run(path, "fetch", "-q", "--prune", "origin", *specs)
+        if {listed.returncode, planned.returncode} != {int(made.returncode != 0)}:
+            fail(f"{names}: stale, a plan and a pruning fetch: {listed!r}, {planned!r}, {made!r}")
+        self.differ(names, "a pruning fetch", told, before - set(self.refs(path)))
+        self.differ(names, "the table", told, {os.fsencode(name) for name in stale})
+
+    def refs(self, path):
+        """The refs of a local repository, and what each points to."""
+        lines = self.git(path, "for-each-ref", "--format=%(refname) %(objectname)").splitlines()
+        return dict(line.split(b" ") for line in lines)
+
+    @staticmethod
+    def differ(specs, what, planned, written):
+        if planned != written:
+            fail(f"{specs}: the plan and {what} differ by {sorted(planned ^ written)[:5]}")
+
+
+def check_plans(program):
+    with tempfile.TemporaryDirectory() as folder:
+        made = Repositories(folder, program)
+        locals_ = [(made.local(f"plan{number}", specs), specs) for number, specs in enumerate(PLANS)]
+        written = sum(made.compare(*one) for one in locals_)
+        for number, (values, settings, words) in enumerate(FETCHES):
+            made.fetch(made.local(f"fetch{number}", values, settings), words)
+        for number, (values, settings, specs, names, stale) in enumerate(PRUNED):
+            made.prune(made.local(f"prune{number}", values, settings), specs, names, stale)
+        # Then one branch of the remote changes.
+        made.git(made.remote, "commit", "-q", "--allow-empty", "-m", "two")
+        for one in locals_:
+            made.compare(*one)
+    return written
+
+
+# What a call may take of a processor, in seconds: ten times what it takes, or more. One that looks at each pair of remotes or at
+# each pair of bytes takes longer.
+BOUND = 2
+
+
+def check_many_remotes(program):
+    """Of 200 remotes a tracking ref is told soon."""
+    with tempfile.TemporaryDirectory() as folder:
+        variables = environment(program)
+        subprocess.run(["git", "init", "-q", folder], env=variables, check=True)
+        with open(os.path.join(folder, ".git", "config"), "a", encoding="ascii") as file:
+            for number in range(200):
+                file.write(f'[remote "r{number}"]\n\turl = x\n\tfetch = +refs/heads/*:refs/remotes/r{number}/*\n')
+        before = resource.getrusage(resource.RUSAGE_CHILDREN)
+        made = shell("git refspec track r77/main", folder, variables)
+        after = resource.getrusage(resource.RUSAGE_CHILDREN)
+        if made.stdout != b"r77  refs/remotes/r77/main  refs/heads/main  +refs/heads/*:refs/remotes/r77/*\n":
+            fail(f"track of 200 remotes: {made!r}")
+        took = after.ru_utime + after.ru_stime - before.ru_utime - before.ru_stime
+        if took > BOUND:
+            fail(f"track of 200 remotes took {took:.2f} seconds")
+
+
+def check_many_values(program):
+    """A remote of 1,000 values is checked soon."""
+    with tempfile.TemporaryDirectory() as folder:
+        variables = environment(program)
+        subprocess.run(["git", "init", "-q", folder], env=variables, check=True)
+        with open(os.path.join(folder, ".git", "config"), "a", encoding="ascii") as file:
+            file.write('[remote "origin"]\n\turl = x\n')
+            for number in range(500):
+                file.write(f"\tfetch = refs/heads/b{number}:refs/remotes/origin/b{number}\n")
+                file.write(f"\tfetch = +refs/heads/t{number}/*:refs/remotes/origin/t{number}/*\n")
+        before = resource.getrusage(resource.RUSAGE_CHILDREN)
+        made = shell("git refspec check", folder, variables)
+        after = resource.getrusage(resource.RUSAGE_CHILDREN)
+        if made.returncode or made.stdout or made.stderr:
+            fail(f"check of 1,000 values: {made!r}")
+        took = after.ru_utime + after.ru_stime - before.ru_utime - before.ru_stime
+        if took > BOUND:
+            fail(f"check of 1,000 values took {took:.2f} seconds")
+
+
+def check_long_values(program):
+    """Two patterns that overlap in up to 100,000 equal letters are checked soon."""
+    with tempfile.TemporaryDirectory() as folder:
+        variables = environment(program)
+        subprocess.run(["git", "init", "-q", folder], env=variables, check=True)
+        letters = "a" * 100_000
+        with open(os.path.join(folder, ".git", "config"), "a", encoding="ascii") as file:
+            file.write('[remote "origin"]\n\turl = x\n\tfetch = ^refs/heads/*\n')
+            file.write(f"\tfetch = refs/heads/*:refs/x/{letters}*\n\tfetch = refs/tags/*:refs/x/*{letters}\n")
+        before = resource.getrusage(resource.RUSAGE_CHILDREN)
+        made = shell("git refspec check", folder, variables)
+        after = resource.getrusage(resource.RUSAGE_CHILDREN)
+        if made.returncode or made.stdout or made.stderr.count(b"warning: ") != 1:
+            fail(f"check of two long values: status {made.returncode}, {made.stderr[:200]!r}")
+        took = after.ru_utime + after.ru_stime - before.ru_utime - before.ru_stime
+        if took > BOUND:
+            fail(f"check of two long values took {took:.2f} seconds")
+
+
+def on_terminal(words, folder, variables):
+    """What a command writes to a terminal."""
+    ours, theirs = pty.openpty()
+    process = subprocess.Popen(words, cwd=folder, env=variables, stdin=theirs, stdout=theirs, stderr=theirs)
+    os.close(theirs)
+    output = b""
+    try:
+        while True:
+            read = os.read(ours, 4096)
+            if not read:
+                break
+            output += read
+    except OSError:
+        pass
+    os.close(ours)
+    process.wait()
+    return output.replace(b"\r\n", b"\n")
+
+
+# Calls in a repository with one fetch value and one merged ref, each with the end of what it writes to a terminal.
+TERMINAL = (
+    (["check"], b"git refspec: 1 checked, all good\n"),
+    (["check", "--remote", "origin", "dev"], b"git refspec: 2 checked, all good\n"),
+    (["check", "-v"], b"remote.origin.fetch: refs/heads/main:refs/x/main\n"),
+    (["check", "^dev"], b"Write ^refs/heads/dev\n"),
+    (["plan"], b"\n2 refs by 2 specs\n"),
+    (["plan", "origin", "main"], b"\n1 ref by 2 specs\n"),
+    (["plan", "--json", "origin", "main"], b"}\n"),
+)
+
+
+def check_terminal(program):
+    """A terminal alone is told of a slow remote, of a check that finds nothing, and of the size of a plan."""
+    with tempfile.TemporaryDirectory() as folder:
+        variables = environment(program)
+        here = os.path.join(folder, "here")
+        shell(f"git clone -q '{Sample.remote}' here", folder, variables)
+        slow = {**variables, "GIT_SSH_COMMAND": "sleep 3; exit 1"}
+        told = on_terminal(["git", "refspec", "plan", "ssh://host/path"], here, slow)
+        if not told.startswith(b"git refspec: waiting for git ls-remote -- ssh://host/path\n"):
+            fail(f"a slow remote on a terminal: {told!r}")
+        untold = subprocess.run(["git", "refspec", "plan", "ssh://host/path"], cwd=here, env=slow, capture_output=True, check=False)
+        if b"waiting" in untold.stderr or untold.returncode != 128:
+            fail(f"a slow remote without a terminal: {untold!r}")
+        shell("git config remote.origin.fetch refs/heads/main:refs/x/main; git config branch.main.merge refs/heads/dev",
+              here, variables)
+        for words, end in TERMINAL:
+            told = on_terminal(["git", "refspec", *words], here, variables)
+            if not told.endswith(end):
+                fail(f"{words} on a terminal: {told!r}")
+
+
+def check_manual(program):
+    """The synopses of the manual page run, and its examples print what the page says."""
+    with open(os.path.join(TOP, "man", "git-refspec.1"), encoding="utf-8") as file:
+        page = file.read()
+    variables = environment(program)
+    with tempfile.TemporaryDirectory() as folder:
+        here = os.path.join(folder, "here")
+        shutil.copytree(Sample.remote, os.path.join(folder, "remote"))
+        shell("git clone -q remote here", folder, variables)
+        count = 0
+        for command in synopses(page.split(".Sh DESCRIPTION")[0]):
+            made = shell(command, here, variables)
+            if made.returncode or made.stderr:
+                fail(f"the synopsis {command!r}: {made!r}")
+            count += 1
+        for command, output in examples(page.split(".Sh EXAMPLES")[1]):
+            made = shell(command, here, variables)
+            if (made.stdout + made.stderr).decode() != output:
+                fail(f"the example {command!r}: {made!r}")
+            count += 1
+        shown = shell("git refspec --help", here, {**variables, "MANPATH": os.path.join(TOP, "man"), "PAGER": "cat"})
+        if b"GIT-REFSPEC" not in shown.stdout and shutil.which("man") and b"No manual entry" not in shown.stderr:
+            fail(f"--help: {shown!r}")
+        return count
+
+
+# What stands for the arguments of a synopsis.
+ARGUMENTS = {"remote": "origin", "spec": "refs/heads/main:refs/x/main", "ref": "origin/main", "name": "origin"}
+
+
+def synopses(text):
+    """The shortest and the longest command of each synopsis."""
+    commands = []
+    for line in text.split(".Sh SYNOPSIS")[1].strip().split("\n"):
+        words = line.split()
+        if words[0] == ".Nm":
+            commands.append((["git", "refspec"], ["git", "refspec"]))
+            continue
+        short, long = commands[-1]
+        optional = words[0] == ".Op"
+        rest, made = " ".join(words[1:] if optional else words).lstrip("."), []
+        for mark, word in re.findall(r"(Cm|Fl Fl|Fl|Ar) ([^ ]+)", rest):
+            made.append({"Cm": word, "Fl Fl": "--" + word, "Fl": "-" + word, "Ar": ARGUMENTS.get(word, "")}[mark])
+        long += made
+        if not optional:
+            short += made
+    return [" ".join(words) for pair in commands for words in pair]
+
+
+def examples(text):
+    """The commands of a page, each with what it prints."""
+    found = []
+    for line in text.split(".Bd -literal")[1].split("\n", 1)[1].split(".Ed")[0].split("\n")[:-1]:
+        if line.startswith("$ "):
+            found.append([line[2:].replace("\\e", "\\"), ""])
+        else:
+            found[-1][1] += line.replace("\\e", "\\") + "\n"
+    return found
+
+
+# Words, with the last one to complete, and some of what they are completed to.
+COMPLETIONS = (
+    ("git refspec ", ("check", "plan", "prefixes", "track")),
+    ("git refspec pl", ("plan",)),
+    ("git refspec plan or", ("origin",)),
+    ("git refspec plan --j", ("--json",)),
+    ("git refspec check --v", ("--verbose",)),
+    ("git refspec check --st", ("--strict",)),
+    ("git refspec prefixes --pat", ("--patterns",)),
+    ("git refspec track origin/d", ("origin/dev",)),
+    ("git refspec track --json refs/remotes/origin/t", ("refs/remotes/origin/topic/a",)),
+    ("git refspec plan --remote or", ("origin",)),
+    ("git -C ../here refspec prefixes or", ("origin",)),
+    ("git -C ../here refspec track origin/d", ("origin/dev",)),
+)
+BASH = r"""
+. "$git" && . "$ours"
+line=$1; COMP_LINE=$line; COMP_POINT=${#line}; read -ra COMP_WORDS <<<"$line"
+[[ $line != *' ' ]] || COMP_WORDS+=("")
+COMP_CWORD=$((${#COMP_WORDS[@]} - 1)); COMPREPLY=()
+__git_wrap__git_main && printf '%s\n' "${COMPREPLY[@]}"
+"""
+def check_completion(program):
+    """What shells complete words to. Returns their names."""
+    tried = []
+    with tempfile.TemporaryDirectory() as folder:
+        variables = environment(program)
+        here = os.path.join(folder, "here")
+        shell(f"git clone -q '{Sample.remote}' here", folder, variables)
+        for name, complete in (("bash", complete_in_bash), ("zsh", complete_in_zsh), ("fish", complete_in_fish)):
+            if not shutil.which(name) or not complete("git refspec ", here, variables):
+                continue
+            tried.append(name)
+            for line, wanted in COMPLETIONS:
+                found = complete(line, here, variables)
+                if not set(wanted) <= set(found):
+                    fail(f"{name} completes {line!r} to {found!r}")
+    return tried
+
+
+def complete_in_bash(line, folder, variables):
+    git = "/usr/share/bash-completion/completions/git"
+    if not os.path.exists(git):
+        return []
+    ours = os.path.join(TOP, "completions", "git-refspec.bash")
+    made = subprocess.run(["bash", "-c", BASH, "bash", line], cwd=folder, env={**variables, "git": git, "ours": ours},
+                          capture_output=True, check=False)
+    return [word.strip() for word in made.stdout.decode().split("\n")]
+
+
+def complete_in_zsh(line, folder, variables):
+    """By a completion widget that notes what is added."""
+    script = r"""
+zmodload zsh/zpty
+zpty -b z "zsh -f -i"
+zpty -w z "PS1=; fpath=(${ours:h} \$fpath); autoload -Uz compinit; compinit -u -D; cd $PWD"
+zpty -w z 'noted() { local -a found; builtin compadd -O found "$@"; print -rl -- $found >>'"$out"'; builtin compadd "$@"; }'
+zpty -w z 'functions[compadd]=$functions[noted]; bindkey "^I" complete-word; print ready >'"$out.ready"
+for i in {1..200}; do [[ -e $out.ready ]] && break; sleep 0.05; done
+zpty -n -w z "$line"$'\t'
+for i in {1..60}; do sleep 0.05; [[ -s $out ]] && { sleep 0.3; break }; done
+zpty -d z
+"""
+    with tempfile.TemporaryDirectory() as notes:
+        out = os.path.join(notes, "out")
+        ours = os.path.join(TOP, "completions", "_git-refspec")
+        subprocess.run(["zsh", "-f", "-c", script], cwd=folder, capture_output=True, check=False, stdin=subprocess.DEVNULL,
+                       env={**variables, "out": out, "ours": os.path.abspath(ours), "line": line, "HOME": notes, "TERM": "dumb"})
+        if not os.path.exists(out):
+            return []
+        with open(out, encoding="utf-8") as file:
+            return file.read().split("\n")
+
+
+def complete_in_fish(line, folder, variables):
+    ours = os.path.abspath(os.path.join(TOP, "completions", "git-refspec.fish"))
+    made = subprocess.run(["fish", "-c", f"source '{ours}'; complete -C '{line}'"], cwd=folder,
+                          env={**variables, "HOME": folder}, capture_output=True, check=False)
+    return [word.split("\t")[0] for word in made.stdout.decode().split("\n")]
+
+
+def main():
+    words = [word for word in sys.argv[1:] if word not in ("--record", "--stored")]
+    if len(words) != 1 or len(sys.argv) > 3:
+        sys.exit(__doc__)
+    if not shutil.which("git"):
+        print("git-refspec: left out, as there is no git")
+        return
+    program, record = os.path.abspath(words[0]), "--record" in sys.argv
+    with tempfile.TemporaryDirectory() as folder:
+        Sample.remote = os.path.join(folder, "remote")
+        make_remote(Sample.remote, environment(program))
+        calls = Sample(program).replay_all(record)
+        if len(sys.argv) > 2:
+            print(f"git-refspec: {calls} calls in {len(LOCALES)} locales {'recorded' if record else 'answered as stored'}")
+            return
+        check_many_remotes(program)
+        check_many_values(program)
+        check_long_values(program)
+        commands = check_manual(program)
+        check_terminal(program)
+        shells = check_completion(program)
+    written = check_plans(program)
+    print(f"git-refspec: {calls} calls in {len(LOCALES)} locales; {commands} commands of the manual page; {len(PLANS)} plans as a "
+          f"dry run tells and Git fetches, of {written} refs; completed in {', '.join(shells) or 'no shell'}")
+
+
+main()
