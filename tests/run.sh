@@ -4,6 +4,7 @@
 # Four lists of them run side by side, each with its output in one piece. A script that fails doesn't end the run: all that
 # failed are listed at the end.
 set -u
+export PYTHONDONTWRITEBYTECODE=1
 here=$(dirname "${BASH_SOURCE[0]}")
 usage="usage: tests/run.sh PROGRAM TESTS REFSPEC"
 program=${1:?$usage}

@@ -1,8 +1,11 @@
 """Calls of `git refspec` with a script in the place of Git, for the scripts of tests/ and those of tools/fuzz."""
 import os
 import tempfile
+from pathlib import Path
 
-SCRIPT = os.path.normpath(os.path.join(os.path.dirname(os.path.abspath(__file__)), os.pardir, os.pardir, "bin", "git-refspec"))
+from . import ROOT
+
+SCRIPT = ROOT / "bin" / "git-refspec"
 # At the step whose number is in STEP, counted from 1 over both scripts, the file `reached` appears, and nothing goes on before the
 # file `go` does.
 STEPS = r"""#!/bin/sh
@@ -53,12 +56,12 @@ class Repository:
 
     def __init__(self, program, answers=None):
         self.folder = tempfile.TemporaryDirectory()
-        self.room, self.temporary = (os.path.join(self.folder.name, name) for name in ("room", "temporary"))
+        self.room, self.temporary = (Path(self.folder.name) / name for name in ("room", "temporary"))
         for folder in (self.room, self.temporary):
-            os.mkdir(folder)
+            folder.mkdir()
         for name, script in (("git", GIT), ("refspec", PROGRAM)):
             self.write(name, script.encode())
-            os.chmod(self.path(name), 0o755)
+            self.path(name).chmod(0o755)
         self.answer(USUAL if answers is None else answers)
         self.program = program
 
@@ -69,29 +72,25 @@ class Repository:
         self.folder.cleanup()
 
     def path(self, name):
-        return os.path.join(self.room, name)
+        return self.room / name
 
     def write(self, name, text):
-        with open(self.path(name), "wb") as file:
-            file.write(text)
-
-    def remove(self, name):
-        if os.path.exists(self.path(name)):
-            os.remove(self.path(name))
+        self.path(name).write_bytes(text)
 
     def answer(self, answers):
         """Takes answers by their files. One that is a number is the status with which Git fails."""
         for name, answer in answers.items():
             is_failure = isinstance(answer, int)
             self.write(name, b"" if is_failure else answer)
-            self.remove(name + ".status")
+            self.path(name + ".status").unlink(missing_ok=True)
             if is_failure:
                 self.write(name + ".status", b"%d" % answer)
 
     def variables(self, **others):
-        return {"PATH": self.room + os.pathsep + os.environ["PATH"], "GIT_REFSPEC_PROGRAM": self.path("refspec"),
-                "REFSPEC": self.program, "TMPDIR": self.temporary, "LC_ALL": "C", **others}
+        path = os.pathsep.join([str(self.room), os.environ["PATH"]])
+        return {"PATH": path, "GIT_REFSPEC_PROGRAM": str(self.path("refspec")), "REFSPEC": str(self.program),
+                "TMPDIR": str(self.temporary), "LC_ALL": "C", **others}
 
     def left(self):
         """What `git refspec` left behind."""
-        return os.listdir(self.temporary)
+        return [path.name for path in self.temporary.iterdir()]

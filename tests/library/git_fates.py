@@ -5,17 +5,19 @@ The tests hold the library against these rows, and Git has to do what they say o
 excluded or in conflict. Values whose source the remote lacks are left out, as Git fails at these. Without a git on the PATH nothing
 is compared.
 """
-import os
 import re
 import shutil
 import sys
 import tempfile
+from pathlib import Path
 
-HERE = os.path.dirname(os.path.dirname(os.path.abspath(__file__)))
-ROWS = os.path.join(HERE, os.pardir, "crates", "gix_refspec_why_tests", "src", "tests", "fates.rt")
-sys.dont_write_bytecode = True
-sys.path.insert(0, os.path.join(HERE, os.pardir, "tools", "oracle"))
+sys.path.insert(0, str(Path(__file__).resolve().parents[1]))
+from helpers import ORACLE, ROOT, parser, stop, use
+
+use(ORACLE)
 import gitfates
+
+ROWS = ROOT / "crates" / "gix_refspec_why_tests" / "src" / "tests" / "fates.rt"
 
 TABLE = re.compile(r"const ROWS: &\[\(&str, &str, &str, &str\)\] = &\[(.*?)^\];", re.M | re.S)
 CELL = re.compile(r'"((?:[^"\\]|\\.)*)"')
@@ -23,11 +25,10 @@ CELL = re.compile(r'"((?:[^"\\]|\\.)*)"')
 
 def rows():
     """The rows of the table: specs, refs of the remote, a ref, and its effects."""
-    with open(ROWS, encoding="utf-8") as file:
-        found = TABLE.search(file.read())
+    found = TABLE.search(ROWS.read_text(encoding="utf-8"))
     cells = CELL.findall(re.sub(r"^ *//.*\n", "", found[1], flags=re.M)) if found else []
     if not cells or len(cells) % 4:
-        sys.exit(f"tests/library/git_fates.py: {len(cells)} texts in the table, whose rows have 4")
+        stop(f"{len(cells)} texts in the table, whose rows have 4")
     return [cells[index:index + 4] for index in range(0, len(cells), 4)]
 
 
@@ -47,11 +48,12 @@ def tried(fates, row):
     kept = fates.complete(names, specs)
     shown = effects._replace(of_specs=[one for spec, one in zip(specs, effects.of_specs) if spec in kept])
     for difference in fates.differences(names, kept, name, shown):
-        sys.exit(f"tests/library/git_fates.py: {row}: {difference}")
+        stop(f"{row}: {difference}")
     return True
 
 
 def main():
+    parser(__doc__).parse_args()
     if shutil.which("git") is None:
         print("git-fates: left out, as there is no git on the PATH")
         return
@@ -61,4 +63,5 @@ def main():
     print(f"git-fates: git does with {sum(shown)} refs what the rows of the tests say; {shown.count(False)} more have invalid names")
 
 
-main()
+if __name__ == "__main__":
+    main()

@@ -5,17 +5,19 @@ The tests hold the library against these rows, and Git has to do what they say: 
 fetches, what `git remote rename` makes of a value, and which values `git remote add` writes. Without a git on the PATH nothing is
 compared.
 """
-import os
 import re
 import shutil
 import sys
 import tempfile
+from pathlib import Path
 
-HERE = os.path.dirname(os.path.dirname(os.path.abspath(__file__)))
-ROWS = os.path.join(HERE, os.pardir, "crates", "gix_refspec_remote_tests", "src", "tests")
-sys.dont_write_bytecode = True
-sys.path.insert(0, os.path.join(HERE, os.pardir, "tools", "oracle"))
+sys.path.insert(0, str(Path(__file__).resolve().parents[1]))
+from helpers import ORACLE, ROOT, parser, stop, use
+
+use(ORACLE)
 import gitremotes
+
+ROWS = ROOT / "crates" / "gix_refspec_remote_tests" / "src" / "tests"
 
 TABLE = re.compile(r"^ *const (\w+): &\[\((.*?)\)\] = &\[(.*?)^ *\];", re.M | re.S)
 CELL = re.compile(r'"((?:[^"\\]|\\.)*)"|(None)')
@@ -24,17 +26,17 @@ REFS = [b"HEAD", b"refs/heads/main", b"refs/heads/x", b"refs/tags/t", b"refs/rem
 
 def rows(name, table="ROWS"):
     """The rows of a table in a file of tests: their texts, with None for a missing one."""
-    with open(os.path.join(ROWS, name + ".rt"), encoding="utf-8") as file:
-        types, lines = next(found[1:] for found in TABLE.findall(file.read()) if found[0] == table)
+    text = (ROWS / f"{name}.rt").read_text(encoding="utf-8")
+    types, lines = next(found[1:] for found in TABLE.findall(text) if found[0] == table)
     cells, width = [None if none else text.encode() for text, none in CELL.findall(lines)], types.count("&str")
     if not cells or len(cells) % width:
-        sys.exit(f"tests/library/git_remotes.py: {len(cells)} texts in the table {table} of {name}.rt, whose rows have {width}")
+        stop(f"{len(cells)} texts in the table {table} of {name}.rt, whose rows have {width}")
     return [cells[index:index + width] for index in range(0, len(cells), width)]
 
 
 def expect(row, seen, wanted):
     if seen != wanted:
-        sys.exit(f"tests/library/git_remotes.py: {row}: git {seen!r}, and not {wanted!r}")
+        stop(f"{row}: git {seen!r}, and not {wanted!r}")
 
 
 def try_upstreams(remotes):
@@ -75,6 +77,7 @@ def try_remotes(remotes):
 
 
 def main():
+    parser(__doc__).parse_args()
     if shutil.which("git") is None:
         print("git-remotes: left out, as there is no git on the PATH")
         return
@@ -86,4 +89,5 @@ def main():
     print("git-remotes: git does what the rows of the tests say: {} upstreams, {} prefetches, {} renames, {} specs of remotes".format(*counts))
 
 
-main()
+if __name__ == "__main__":
+    main()

@@ -6,13 +6,12 @@ where the call answers or leaves anything else than it should. It prints `answer
 growth between the marks is refused, the second, and so on, until a run meets no refusal; and so once more with
 all later ones refused too. The last run has to print `answered`.
 """
-import os
 import subprocess
 import sys
+from pathlib import Path
 
-sys.dont_write_bytecode = True
-sys.path.insert(0, os.path.dirname(os.path.dirname(os.path.abspath(__file__))))
-from helpers import runs
+sys.path.insert(0, str(Path(__file__).resolve().parents[1]))
+from helpers import paths, programs, stop
 
 # As tests/growths.rt of gix_refspec_tests has it.
 MARK = 1_048_573
@@ -53,12 +52,12 @@ def growths(tests, library, name, later):
     """How many growths were refused in turn, and how many of these ended the call."""
     call, ended = 1, 0
     while True:
-        made, refused = runs.run_refusing(library, [tests, f"tests::growths::{name}"], call, later, MARK,
+        made, refused = programs.run_refusing(library, [tests, f"tests::growths::{name}"], call, later, MARK,
                                           stderr=subprocess.STDOUT)
         says = [word for word in (b"answered", b"refused") if word in made.stdout.split()]
         if made.returncode != 0 or len(says) != 1 or says == [b"refused"] and not refused:
             kind = "and all later ones" if later else "alone"
-            sys.exit(f"tests/library/growths.py: {name}, growth {call} {kind} refused: {made.stdout.decode(errors='replace')}")
+            stop(f"{name}, growth {call} {kind} refused: {made.stdout.decode(errors='replace')}")
         if not refused:
             return call - 1, ended
         ended += says == [b"refused"]
@@ -69,22 +68,21 @@ def check(tests, library, name, least, ends):
     counts = [growths(tests, library, name, later) for later in (False, True)]
     for count, ended in counts:
         if count < least or ends != (ended > 0):
-            sys.exit(f"tests/library/growths.py: {name}: {count} growths were refused, and {ended} of these ended the call;"
-                     f" {least} are expected at the least")
+            stop(f"{name}: {count} growths were refused, and {ended} of these ended the call;"
+                 f" {least} are expected at the least")
     return counts[0][0]
 
 
 def main():
-    if len(sys.argv) != 2:
-        sys.exit(__doc__)
-    tests = os.path.abspath(sys.argv[1])
-    with runs.library("refuse") as library:
+    tests = paths(__doc__, "tests")
+    with programs.library("refuse") as library:
         told = [(name, check(tests, library, name, least, True)) for name, least in CALLS]
         for name in NO_GROWTH:
             told.append((name, check(tests, library, name, 0, False)))
             if told[-1][1] != 0:
-                sys.exit(f"tests/library/growths.py: {name} asks for {told[-1][1]} growths")
+                stop(f"{name} asks for {told[-1][1]} growths")
     print("growths: " + ", ".join(f"{count} of {name.partition('::')[2]}" for name, count in told))
 
 
-main()
+if __name__ == "__main__":
+    main()

@@ -9,6 +9,10 @@ import ctypes
 import os
 import subprocess
 import sys
+from pathlib import Path
+
+sys.path.insert(0, str(Path(__file__).resolve().parents[1]))
+from helpers import paths, stop
 
 SECONDS = 2
 # The tests, and their peaks in megabytes.
@@ -34,19 +38,18 @@ def run(tests, name):
 
 
 def main():
-    if len(sys.argv) != 2:
-        sys.exit(__doc__)
-    tests = os.path.abspath(sys.argv[1])
+    tests = paths(__doc__, "tests")
     ctypes.CDLL(None).prctl(PR_SET_CHILD_SUBREAPER, 1, 0, 0, 0)
     peaks = []
     for name, room in TESTS:
         status, written, peak = run(tests, name)
         if status != 0:
-            sys.exit(f"tests/library/large.py: {name}: status {status}: {written.decode(errors='replace')}")
+            stop(f"{name}: status {status}: {written.decode(errors='replace')}")
         if peak > room << 10:
-            sys.exit(f"tests/library/large.py: {name}: took {peak >> 10} MB, and may take {room}")
+            stop(f"{name}: took {peak >> 10} MB, and may take {room}")
         peaks.append(f"{name} {peak / 1024:.1f} MB")
     print("large: " + ", ".join(peaks) + f", in {SECONDS} seconds each")
 
 
-main()
+if __name__ == "__main__":
+    main()

@@ -12,9 +12,12 @@ import shutil
 import subprocess
 import sys
 import tempfile
+from pathlib import Path
 
-ROOT = os.path.dirname(os.path.dirname(os.path.dirname(os.path.abspath(__file__))))
-ARCHIVE = os.path.join(ROOT, "out", "lib")
+sys.path.insert(0, str(Path(__file__).resolve().parents[1]))
+from helpers import PYTHON, ROOT, paths, repositories, stop
+
+ARCHIVE = ROOT / "out" / "lib"
 # What stands around the lines of a language.
 C_PROGRAM = """#include <gix_refspec.h>
 #include <string.h>
@@ -56,19 +59,19 @@ def blocks(text, language, start=""):
 def block(text, language, start=""):
     found = blocks(text, language, start)
     if len(found) != 1:
-        sys.exit(f"tests/packages/readme.py: {len(found)} blocks of {language} begin {start!r}")
+        stop(f"{len(found)} blocks of {language} begin {start!r}")
     return found[0]
 
 
 def compare(name, made, wanted):
     if made != wanted:
-        sys.exit(f"tests/packages/readme.py: {name}\nprinted:\n{made}in the document:\n{wanted}")
+        stop(f"{name}\nprinted:\n{made}in the document:\n{wanted}")
 
 
 def manual_examples(page):
     """The lines of the examples of a manual page, each block by itself."""
-    with open(os.path.join(ROOT, "man", page), encoding="utf-8") as file:
-        text = re.search(r"^\.Sh EXAMPLES\n(.*?)^\.Sh ", file.read(), re.M | re.S)[1]
+    text = (ROOT / "man" / page).read_text(encoding="utf-8")
+    text = re.search(r"^\.Sh EXAMPLES\n(.*?)^\.Sh ", text, re.M | re.S)[1]
     found = re.findall(r"^\.Bd -literal[^\n]*\n(.*?)^\.Ed$", text, re.M | re.S)
     return [lines.replace("\\e", "\\").replace("\\&", "") for lines in found]
 
@@ -77,7 +80,7 @@ def run(words, folder, name, **more):
     """Runs a command that has to end well, and gives what it printed."""
     made = subprocess.run(words, cwd=folder, text=True, capture_output=True, check=False, **more)
     if made.returncode:
-        sys.exit(f"tests/packages/readme.py: {name}: status {made.returncode}:\n{made.stdout}{made.stderr}")
+        stop(f"{name}: status {made.returncode}:\n{made.stdout}{made.stderr}")
     return made.stdout
 
 
@@ -85,7 +88,7 @@ def run_lines(lines, folder, env):
     """Runs each command of a console block, and compares both its streams with the lines below it."""
     commands = re.findall(r"^\$ (.*)\n((?:(?!\$ ).*\n)*)", lines, re.M)
     if not commands:
-        sys.exit(f"tests/packages/readme.py: no command in {lines!r}")
+        stop(f"no command in {lines!r}")
     for command, wanted in commands:
         made = subprocess.run(["bash", "-c", command], cwd=folder, env=env, text=True, stdout=subprocess.PIPE,
                               stderr=subprocess.STDOUT, check=False)
@@ -93,11 +96,10 @@ def run_lines(lines, folder, env):
     return len(commands)
 
 
-def git_folder(folder):
-    """A clone with the values and refs above."""
-    env = {**os.environ, "GIT_CONFIG_GLOBAL": os.devnull, "GIT_CONFIG_NOSYSTEM": "1",
-           **{f"GIT_{who}_{what}": "a@b" for who in ("AUTHOR", "COMMITTER") for what in ("NAME", "EMAIL")}}
-    remote, local = os.path.join(folder, "remote"), os.path.join(folder, "local")
+def git_folder(folder, programs):
+    """A clone with the values and refs above, and variables for calls there."""
+    env = repositories.variables(programs, ROOT / "bin")
+    remote, local = folder / "remote", folder / "local"
     run(["git", "init", "-q", "-b", "main", remote], folder, "git init", env=env)
     run(["git", "commit", "-q", "--allow-empty", "-m", "one"], remote, "git commit", env=env)
     for name in REFS:
@@ -114,7 +116,7 @@ def run_shown(lines, folder, env):
         made = subprocess.run(["bash", "-c", command], cwd=folder, env=env, text=True, stdout=subprocess.PIPE,
                               stderr=subprocess.STDOUT, check=False)
         if made.returncode > 1 or not made.stdout:
-            sys.exit(f"tests/packages/readme.py: {command}: status {made.returncode}:\n{made.stdout}")
+            stop(f"{command}: status {made.returncode}:\n{made.stdout}")
     return len(lines.splitlines())
 
 
@@ -122,8 +124,8 @@ def lines_in_a_clone(text, folder, refspec, programs):
     """The lines of README.md that begin with `git refspec`, and those of refspec.1."""
     if not shutil.which("git"):
         return "left out are `git refspec` and refspec.1, as there is no Git"
-    local, env = git_folder(folder)
-    env.update(GIT_REFSPEC_PROGRAM=refspec, PATH=os.pathsep.join([programs, os.path.join(ROOT, "bin"), env["PATH"]]))
+    local, env = git_folder(folder, programs)
+    env.update(GIT_REFSPEC_PROGRAM=str(refspec))
     lines = [block(text, "console", "$ git refspec"), *manual_examples("refspec.1")]
     count = sum(run_lines(one, local, env) for one in lines) + run_shown(block(text, "sh", "git refspec"), local, env)
     return f"{count} commands of git refspec and refspec.1"
@@ -131,7 +133,7 @@ def lines_in_a_clone(text, folder, refspec, programs):
 
 def lines_alone(text, folder, programs):
     """The other lines of README.md, and those of refspec_map.1."""
-    env = {**os.environ, "PATH": programs + os.pathsep + os.environ["PATH"]}
+    env = {**os.environ, "PATH": f"{programs}{os.pathsep}{os.environ['PATH']}"}
     lines = [one for one in blocks(text, "console") if not one.startswith("$ git")] + manual_examples("refspec_map.1")
     return f"{sum(run_lines(one, folder, env) for one in lines)} commands of the programs and refspec_map.1"
 
@@ -141,15 +143,13 @@ def rattle_program(text, folder):
     if not shutil.which("rt"):
         return "left out is the program in Rattle, as there is no rt"
     for crate in ("gix_refspec_text", "gix_refspec_match", "gix_refspec"):
-        shutil.copytree(os.path.join(ROOT, "crates", crate), os.path.join(folder, "crates", crate))
-    source = os.path.join(folder, "crates", "spec_check", "src")
-    os.makedirs(source)
-    for path, words in ((os.path.join(folder, "crates.txt"), block(text, "text", "gix_refspec_text:")),
-                        (os.path.join(source, "main.rt"), block(text, "rust", "//!"))):
-        with open(path, "w", encoding="utf-8") as file:
-            file.write(words)
+        shutil.copytree(ROOT / "crates" / crate, folder / "crates" / crate)
+    source = folder / "crates" / "spec_check" / "src"
+    source.mkdir(parents=True)
+    (folder / "crates.txt").write_text(block(text, "text", "gix_refspec_text:"), encoding="utf-8")
+    (source / "main.rt").write_text(block(text, "rust", "//!"), encoding="utf-8")
     printed = re.search(r"^It prints `(.*?)`", text, re.M)
-    compare("the program in Rattle", run(["rt", "try"], os.path.dirname(source), "rt try"), printed[1] + "\n")
+    compare("the program in Rattle", run(["rt", "try"], source.parent, "rt try"), printed[1] + "\n")
     return "the program in Rattle"
 
 
@@ -160,11 +160,10 @@ def indented(lines, width=4):
 def lines_of_c(text, folder):
     if not shutil.which("gcc"):
         return "left out are the lines of C, as there is no gcc"
-    with open(os.path.join(folder, "example.c"), "w", encoding="utf-8") as file:
-        file.write(C_PROGRAM % indented(block(text, "c")))
-    include = os.path.join(ROOT, "crates", "gix_refspec_c", "include")
-    run(["gcc", "-Wall", "-Wextra", "-Werror", "-I" + include, "-o", "example", "example.c",
-         os.path.join(ARCHIVE, "libgix_refspec.a")], folder, "gcc")
+    (folder / "example.c").write_text(C_PROGRAM % indented(block(text, "c")), encoding="utf-8")
+    include = ROOT / "crates" / "gix_refspec_c" / "include"
+    run(["gcc", "-Wall", "-Wextra", "-Werror", f"-I{include}", "-o", "example", "example.c", ARCHIVE / "libgix_refspec.a"],
+        folder, "gcc")
     run(["./example"], folder, "the lines of C")
     return "the lines of C"
 
@@ -173,46 +172,42 @@ def lines_of_rust(text, folder):
     if not shutil.which("cargo"):
         return "left out are the lines of Rust, as there is no cargo"
     [lines] = [found for found in blocks(text, "rust") if not found.startswith("//!")]
-    os.mkdir(os.path.join(folder, "src"))
-    os.symlink(ARCHIVE, os.path.join(folder, "lib"))
-    for name, words in (("Cargo.toml", CARGO % os.path.join(ROOT, "bindings", "rust", "refspec")),
-                        (os.path.join("src", "main.rs"), RUST_PROGRAM % indented(lines))):
-        with open(os.path.join(folder, name), "w", encoding="utf-8") as file:
-            file.write(words)
+    (folder / "src").mkdir()
+    (folder / "lib").symlink_to(ARCHIVE)
+    (folder / "Cargo.toml").write_text(CARGO % (ROOT / "bindings" / "rust" / "refspec"), encoding="utf-8")
+    (folder / "src" / "main.rs").write_text(RUST_PROGRAM % indented(lines), encoding="utf-8")
     run(["cargo", "run", "--quiet", "--offline"], folder, "the lines of Rust",
-        env={**os.environ, "GIX_REFSPEC_FOLDER": folder})
+        env={**os.environ, "GIX_REFSPEC_FOLDER": str(folder)})
     return "the lines of Rust"
 
 
 def lines_of_python(text, folder):
-    env = {**os.environ, "PYTHONPATH": os.path.join(ROOT, "bindings", "python"), "PYTHONDONTWRITEBYTECODE": "1",
-           "GIX_REFSPEC_LIBRARY": os.path.join(ARCHIVE, "libgix_refspec.so")}
+    env = {**os.environ, "PYTHONPATH": str(PYTHON), "PYTHONDONTWRITEBYTECODE": "1",
+           "GIX_REFSPEC_LIBRARY": str(ARCHIVE / "libgix_refspec.so")}
     run([sys.executable, "-c", "import gix_refspec\n" + block(text, "python")], folder, "the lines of Python", env=env)
     return "the lines of Python"
 
 
 def main():
-    if len(sys.argv) != 3:
-        sys.exit(__doc__)
-    program, refspec = (os.path.abspath(path) for path in sys.argv[1:])
-    with open(os.path.join(ROOT, "README.md"), encoding="utf-8") as file:
-        text = file.read()
+    program, refspec = paths(__doc__, "program", "refspec")
+    text = (ROOT / "README.md").read_text(encoding="utf-8")
     examples = [rattle_program]
-    if os.path.exists(os.path.join(ARCHIVE, "libgix_refspec.so")):
+    if (ARCHIVE / "libgix_refspec.so").exists():
         examples += [lines_of_c, lines_of_rust, lines_of_python]
     else:
         print("readme: left out are the lines of C, Rust and Python, as `make lib` has not built out/lib")
     with tempfile.TemporaryDirectory() as programs:
-        os.symlink(program, os.path.join(programs, "refspec_map"))
-        os.symlink(refspec, os.path.join(programs, "refspec"))
+        (Path(programs) / "refspec_map").symlink_to(program)
+        (Path(programs) / "refspec").symlink_to(refspec)
         with tempfile.TemporaryDirectory() as folder:
-            done = [lines_alone(text, folder, programs)]
+            done = [lines_alone(text, Path(folder), programs)]
         with tempfile.TemporaryDirectory() as folder:
-            done.append(lines_in_a_clone(text, folder, refspec, programs))
+            done.append(lines_in_a_clone(text, Path(folder), refspec, programs))
     for example in examples:
         with tempfile.TemporaryDirectory() as folder:
-            done.append(example(text, folder))
+            done.append(example(text, Path(folder)))
     print("readme: " + ", ".join(done))
 
 
-main()
+if __name__ == "__main__":
+    main()

@@ -13,9 +13,12 @@ import subprocess
 import sys
 import tempfile
 import time
+from pathlib import Path
 
-HERE = os.path.dirname(os.path.dirname(os.path.abspath(__file__)))
-FOLDER = os.path.join(HERE, os.pardir, "completions")
+sys.path.insert(0, str(Path(__file__).resolve().parents[1]))
+from helpers import ROOT, paths, stop
+
+FOLDER = ROOT / "completions"
 BASH = '. "$0"; COMP_WORDS=("$@"); COMP_CWORD=$(($# - 1)); _refspec; printf "%s\\n" "${COMPREPLY[@]}"'
 ROWS = [(["plan", "--re"], {"--read-z", "--refs"}), (["check", "--verb"], {"--verbose"}), (["exp"], {"explain"})]
 
@@ -30,20 +33,20 @@ def commands_of(program):
 
 def check_bash(program):
     def told(*words):
-        made = subprocess.run(["bash", "-c", BASH, os.path.join(FOLDER, "refspec.bash"), "refspec", *words],
+        made = subprocess.run(["bash", "-c", BASH, FOLDER / "refspec.bash", "refspec", *words],
                               stdout=subprocess.PIPE, text=True, check=False)
         return set(made.stdout.split())
 
     commands = commands_of(program)
     if not set(commands) <= told(""):
-        sys.exit(f"completions: bash lacks the commands {sorted(set(commands) - told(''))}")
+        stop(f"bash lacks the commands {sorted(set(commands) - told(''))}")
     for command in commands:
         options = set(re.findall(r"(?<![\w-])--?[a-z][a-z-]*", " ".join(
             re.findall(r"^ {2,6}(-.*?) {2,}", help_page(program, command), re.M))))
         if not {one for one in options if one.startswith("--")} <= told(command, "--"):
-            sys.exit(f"completions: for {command} bash lacks {sorted(options - told(command, '--'))}")
+            stop(f"for {command} bash lacks {sorted(options - told(command, '--'))}")
         if told(command, "--") - options:
-            sys.exit(f"completions: for {command} bash has {sorted(told(command, '--') - options)}, which help hasn't")
+            stop(f"for {command} bash has {sorted(told(command, '--') - options)}, which help hasn't")
     return len(commands)
 
 
@@ -54,7 +57,7 @@ def check_fish(path):
                               env={**os.environ, "PATH": path})
         told = {line.split("\t")[0] for line in made.stdout.splitlines()}
         if told != wanted:
-            sys.exit(f"completions: fish completes {words} to {told}, not {wanted}")
+            stop(f"fish completes {words} to {told}, not {wanted}")
 
 
 class Zsh:
@@ -82,7 +85,7 @@ class Zsh:
 
 
 def check_zsh(path, folder):
-    subprocess.run(["zsh", "-n", os.path.join(FOLDER, "_refspec")], check=True)
+    subprocess.run(["zsh", "-n", FOLDER / "_refspec"], check=True)
     shell = Zsh(path, folder)
     for words, wanted in ROWS:
         line = f"refspec {' '.join(words)}"
@@ -94,32 +97,29 @@ def check_zsh(path, folder):
 
         told = shell.ask(f"{line}\t", has_all)
         if not has_all(told):
-            sys.exit(f"completions: zsh completes {words} to {told!r}, not {wanted}")
+            stop(f"zsh completes {words} to {told!r}, not {wanted}")
         shell.ask("\x15print do''ne\r", lambda told: "done" in told)
     shell.end()
 
 
 def check_git_refspec(program):
     """Each command and each long option of the page of `git refspec` is in its three files."""
-    page = subprocess.run([os.path.join(HERE, os.pardir, "bin", "git-refspec"), "-h"], capture_output=True, text=True, check=True,
+    page = subprocess.run([ROOT / "bin" / "git-refspec", "-h"], capture_output=True, text=True, check=True,
                           env={**os.environ, "GIT_REFSPEC_PROGRAM": program}).stdout
     options = set(re.findall(r"^    (?:-\w, )?--([a-z]+)", page, re.MULTILINE))
     commands = set(re.findall(r"^    ([a-z]+)  ", page, re.MULTILINE))
     if len(options) < 6 or len(commands) < 4:
-        sys.exit(f"completions: the page of git refspec has {options} and {commands}")
+        stop(f"the page of git refspec has {options} and {commands}")
     for name in ("git-refspec.bash", "_git-refspec", "git-refspec.fish"):
-        with open(os.path.join(FOLDER, name), encoding="utf-8") as file:
-            words = set(re.findall(r"[a-z]+", file.read()))
+        words = set(re.findall(r"[a-z]+", (FOLDER / name).read_text(encoding="utf-8")))
         lacking = sorted((options | commands) - words)
         if lacking:
-            sys.exit(f"completions: {name} lacks {lacking}")
+            stop(f"{name} lacks {lacking}")
 
 
 def main():
-    if len(sys.argv) != 2:
-        sys.exit(__doc__)
-    program, left_out = os.path.abspath(sys.argv[1]), []
-    if subprocess.run([os.path.join(HERE, os.pardir, "tools", "completions.py"), program, "--check"], check=False).returncode:
+    program, left_out = paths(__doc__, "program"), []
+    if subprocess.run([ROOT / "tools" / "completions.py", program, "--check"], check=False).returncode:
         sys.exit(1)
     count = check_bash(program)
     check_git_refspec(program)
@@ -135,4 +135,5 @@ def main():
     print(f"completions: {count} commands as their pages of help" + "".join(f"; left out: no {one}" for one in left_out))
 
 
-main()
+if __name__ == "__main__":
+    main()

@@ -13,10 +13,10 @@ import resource
 import subprocess
 import sys
 import tempfile
+from pathlib import Path
 
-sys.dont_write_bytecode = True
-sys.path.insert(0, os.path.dirname(os.path.dirname(os.path.abspath(__file__))))
-from helpers import runs, scripted
+sys.path.insert(0, str(Path(__file__).resolve().parents[1]))
+from helpers import paths, programs, scripted, stop
 
 STACK = 64 * 1024
 NO_MEMORY = b"refspec: out of memory\n"
@@ -76,7 +76,7 @@ LARGE_ANSWERS = {
 
 
 def fail(case, what, told):
-    sys.exit(f"tests/refspec/faults.py: {' '.join(case.words)} of {case.input[:40]!r} and {sorted(case.files)}: {what}: {told}")
+    stop(f"{' '.join(case.words)} of {case.input[:40]!r} and {sorted(case.files)}: {what}: {told}")
 
 
 def end_of(case, message):
@@ -93,21 +93,17 @@ class Runner:
     """Runs a case in a folder of its own, with its files."""
 
     def __init__(self, program, folder, case):
-        self.program, self.folder, self.case = program, folder, case
+        folder = Path(folder)
+        self.program, self.folder, self.case, self.asked = program, folder, case, folder / "asked"
         for name, text in case.files.items():
-            with open(os.path.join(folder, name), "wb") as file:
-                file.write(text)
-
-    def path(self):
-        return os.path.join(self.folder, "asked")
+            (folder / name).write_bytes(text)
 
     def run(self, run=lambda words, **options: subprocess.run(words, stdout=subprocess.PIPE, check=False, **options), **options):
         """What a run by some call writes, and what else that call returns."""
-        open(self.path(), "wb").close()
+        self.asked.write_bytes(b"")
         made = run([self.program, *self.case.words], input=self.case.input, stderr=subprocess.PIPE, cwd=self.folder, **options)
         made, *others = made if isinstance(made, tuple) else (made,)
-        with open(self.path(), "rb") as file:
-            return Answer(made.stdout, made.stderr, made.returncode, file.read()), *others
+        return Answer(made.stdout, made.stderr, made.returncode, self.asked.read_bytes()), *others
 
     def expect(self, answer, wanted, what):
         if answer not in wanted:
@@ -122,7 +118,7 @@ def refuse_growths(runner, library, whole):
     for later in (False, True):
         refused, call, ended = True, 1, 0
         while refused:
-            answer, refused = runner.run(lambda words, **options: runs.run_refusing(library, words, call, later, **options))
+            answer, refused = runner.run(lambda words, **options: programs.run_refusing(library, words, call, later, **options))
             ended += refused and answer in early
             runner.expect(answer, [whole, *early] if refused else [whole], f"growth {call} is refused")
             count, call = count + refused, call + 1
@@ -134,7 +130,7 @@ def refuse_growths(runner, library, whole):
 def fail_calls(runner, library, whole):
     """Each read and each write fails in turn, is interrupted in turn, and takes one byte at a time."""
     def run(**variables):
-        return runner.run(lambda words, **options: runs.run_with(library, words, {"CALLS_ALL": "yes", **variables}, **options))
+        return runner.run(lambda words, **options: programs.run_with(library, words, {"CALLS_ALL": "yes", **variables}, **options))
 
     answer, told = run()
     runner.expect(answer, [whole], "its calls are counted")
@@ -161,7 +157,7 @@ def refuse_files(runner, library, whole):
     is_git = runner.case.words[0] == "git"
     names = [*runner.case.files, *(["asked"] if is_git else [])]
     for name in names:
-        answer, _ = runner.run(lambda words, **options: runs.run_with(library, words, {"CALLS_OPEN": name}, **options))
+        answer, _ = runner.run(lambda words, **options: programs.run_with(library, words, {"CALLS_OPEN": name}, **options))
         needs = not is_git or name == "words" or name == "asked" and whole.asked
         runner.expect(answer, refused if needs else [whole, *refused], f"{name} can't be opened")
     return len(names)
@@ -205,12 +201,10 @@ def steps(program, words, answers):
 
 
 def main():
-    if len(sys.argv) != 2:
-        sys.exit(__doc__)
-    program = os.path.abspath(sys.argv[1])
+    program = paths(__doc__, "program")
     cases = COMMANDS + [case for words in CALLS for case in steps(program, words, scripted.USUAL)]
     large = LARGE + [case for words in CALLS for case in steps(program, words, LARGE_ANSWERS)]
-    with runs.library("refuse") as refuse, runs.library("calls", "-ldl") as calls:
+    with programs.library("refuse") as refuse, programs.library("calls", "-ldl") as calls:
         with concurrent.futures.ThreadPoolExecutor(os.cpu_count()) as pool:
             counts = list(pool.map(lambda case: check(program, (refuse, calls), case), cases))
             list(pool.map(lambda case: check_stack(program, case), large))
@@ -219,4 +213,5 @@ def main():
           f" {failed} reads and writes failed and interrupted, each in turn; {len(large)} large ones on a stack of {STACK} bytes")
 
 
-main()
+if __name__ == "__main__":
+    main()

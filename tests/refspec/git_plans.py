@@ -1,5 +1,6 @@
 #!/usr/bin/env python3
-"""Gives the stored cases of git-plans.sample and situations.sample to git and to the program refspec: tests/refspec/git_plans.py REFSPEC
+"""Gives the stored cases of git-plans.sample and situations.sample to git and to the program refspec:
+tests/refspec/git_plans.py REFSPEC
 
 The program, and `git refspec` in a situation, has to answer what is stored: what a fetch writes, or which local refs a pruning
 fetch deletes. Git has to do so. Where it is known to do otherwise, it may also do what is stored, or differ by the kinds that are
@@ -11,18 +12,21 @@ import shutil
 import sys
 import tempfile
 from concurrent.futures import ThreadPoolExecutor
+from pathlib import Path
 
-HERE = os.path.dirname(os.path.dirname(os.path.abspath(__file__)))
-SAMPLE, SITUATIONS = [os.path.join(HERE, "samples", name + ".sample") for name in ("git-plans", "situations")]
-sys.dont_write_bytecode = True
-sys.path.insert(0, os.path.join(HERE, os.pardir, "tools", "oracle"))
+sys.path.insert(0, str(Path(__file__).resolve().parents[1]))
+from helpers import ORACLE, paths, samples, stop, use
+
+use(ORACLE)
 import gitfetch
 import gitplans
 import trials
 
+SAMPLE, SITUATIONS = [samples.FOLDER / f"{name}.sample" for name in ("git-plans", "situations")]
+
 
 def fail(stored, what, sample=SAMPLE):
-    sys.exit(f"tests/refspec/git_plans.py: the case at line {stored.number} of {os.path.basename(sample)}: {what}")
+    stop(f"the case at line {stored.number} of {sample.name}: {what}")
 
 
 def case_of(store, stored):
@@ -73,22 +77,22 @@ def check_situation(tried, stored):
 
 
 def main():
-    if len(sys.argv) != 2:
-        sys.exit(__doc__)
+    program = paths(__doc__, "refspec")
     if shutil.which("git") is None:
         print("git-plans: left out, as there is no git on the PATH")
         return
-    program, lists = os.path.abspath(sys.argv[1]), gitfetch.stored_lists(SAMPLE)
+    lists = gitfetch.stored_lists(SAMPLE)
     with tempfile.TemporaryDirectory() as folder, ThreadPoolExecutor(os.cpu_count()) as pool:
         store = gitfetch.Store(folder)
         counts = collections.Counter(pool.map(lambda stored: check(store, program, stored), lists))
         tried = trials.Trials(folder, program)
         counts.update(pool.map(lambda stored: check_situation(tried, stored), gitfetch.stored_lists(SITUATIONS)))
     if not (counts["plan"] and counts["stale"]):
-        sys.exit("tests/refspec/git_plans.py: git-plans.sample has no fetch that git does as is answered, or no pruning fetch")
+        stop("git-plans.sample has no fetch that git does as is answered, or no pruning fetch")
     print(f"git-plans: {len(lists)} stored cases: {counts['plan']} fetched by git as refspec plan says, {counts['stale']} pruned"
           f" as refspec stale says, and {counts['known']} otherwise in known ways; in {counts['situation']} situations"
           f" git does as git refspec says, and in {counts['situation, otherwise']} otherwise in known ways")
 
 
-main()
+if __name__ == "__main__":
+    main()

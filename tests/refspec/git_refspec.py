@@ -13,18 +13,18 @@ import concurrent.futures
 import difflib
 import json
 import os
-import pty
 import re
 import resource
 import shutil
 import subprocess
 import sys
 import tempfile
+from pathlib import Path
 
-HERE = os.path.dirname(os.path.dirname(os.path.abspath(__file__)))
-TOP = os.path.join(HERE, "..")
-SCRIPT = os.path.join(TOP, "bin", "git-refspec")
-SAMPLE = os.path.join(HERE, "samples", "git-refspec.sample")
+sys.path.insert(0, str(Path(__file__).resolve().parents[1]))
+from helpers import ROOT, add_path, parser, programs, repositories, samples, stop
+
+SCRIPT = ROOT / "bin" / "git-refspec"
 LOCALES = ("C.UTF-8", "C")
 BRANCHES = 5_000
 # Branches beside these: with quotes, bytes of UTF-8, and below folders.
@@ -88,17 +88,8 @@ TOLD = re.compile(rb" [ +*] (?:\[.*?\]|\S+) +(\S+) +-> (\S+)")
 USUAL = re.compile(rb"^refs/(heads|tags|remotes)/")
 
 
-def fail(what):
-    sys.exit(f"tests/refspec/git_refspec.py: {what}")
-
-
 def environment(program, locale="C"):
-    kept = {name: value for name, value in os.environ.items() if not name.startswith(("GIT_", "LC_", "LANG"))}
-    date = "2020-01-01T00:00:00Z"
-    return {**kept, "GIT_REFSPEC_PROGRAM": program, "GIT_CONFIG_GLOBAL": os.devnull, "GIT_CONFIG_NOSYSTEM": "1", "LC_ALL": locale,
-            "GIT_AUTHOR_NAME": "a", "GIT_AUTHOR_EMAIL": "a@b", "GIT_AUTHOR_DATE": date, "GIT_COMMITTER_NAME": "a",
-            "GIT_COMMITTER_EMAIL": "a@b", "GIT_COMMITTER_DATE": date, "GIT_ADVICE": "0",
-            "PATH": os.path.dirname(SCRIPT) + os.pathsep + os.environ["PATH"]}
+    return repositories.variables(SCRIPT.parent, locale=locale, GIT_REFSPEC_PROGRAM=str(program), GIT_ADVICE="0")
 
 
 def shell(command, folder, variables):
@@ -111,16 +102,15 @@ def make_remote(path, variables):
     made = shell(f"""set -e; git init -q -b main '{path}'; cd '{path}'; git commit -q --allow-empty -m one; git branch dev
         git branch topic/a; git tag -a -m note v1; git tag v2; git pack-refs --all; rm -rf .git/hooks .git/logs""", None, variables)
     if made.returncode:
-        fail(f"no remote: {made.stderr!r}")
+        stop(f"no remote: {made.stderr!r}")
 
 
-class Sample:
+class Sample(samples.Blocks):
     """The parts of the sample, as lists of lines."""
 
-    def __init__(self, program):
-        with open(SAMPLE, "rb") as file:
-            self.blocks = [block.split(b"\n") for block in file.read().rstrip(b"\n").split(b"\n\n")]
-        self.program = program
+    def __init__(self, program, remote):
+        super().__init__("git-refspec.sample")
+        self.program, self.remote = program, remote
 
     def parts(self):
         return [number for number, block in enumerate(self.blocks) if block[0].startswith(b"= ")]
@@ -140,14 +130,14 @@ class Sample:
         variables = environment(self.program, locale)
         lines = [self.blocks[number][0]]
         with tempfile.TemporaryDirectory() as folder:
-            here = os.path.join(folder, "here")
-            os.mkdir(here)
-            shutil.copytree(Sample.remote, os.path.join(folder, "remote"))
+            here = Path(folder) / "here"
+            here.mkdir()
+            shutil.copytree(self.remote, Path(folder) / "remote")
             for call, _ in self.calls(number):
                 made = shell(os.fsdecode(call[2:]), here, variables)
                 if call.startswith(b"+"):
                     if made.returncode:
-                        fail(f"{call!r}: status {made.returncode}: {made.stderr!r}")
+                        stop(f"{call!r}: status {made.returncode}: {made.stderr!r}")
                     lines.append(call)
                     continue
                 if call.startswith(b"$ git refspec") and b"--json" in call and b"|" not in call:
@@ -160,7 +150,7 @@ class Sample:
     def check_json(call, output):
         for line in output.splitlines():
             if "kind" not in json.loads(line):
-                fail(f"{call!r}: an object without a kind: {line!r}")
+                stop(f"{call!r}: an object without a kind: {line!r}")
 
     def replay_all(self, record):
         parts = self.parts()
@@ -176,10 +166,9 @@ class Sample:
                 print(f"git-refspec: in {locale}:", file=sys.stderr)
                 show_difference(self.blocks[number], lines)
         if record:
-            with open(SAMPLE, "wb") as file:
-                file.write(b"\n\n".join(b"\n".join(block) for block in self.blocks) + b"\n")
+            self.write()
         if wrong:
-            fail(f"{wrong} parts of the sample are answered otherwise")
+            stop(f"{wrong} parts of the sample are answered otherwise")
         return sum(len([call for call, _ in self.calls(number) if call.startswith(b"$")]) for number in parts)
 
 
@@ -201,8 +190,8 @@ class Repositories:
     """A remote with many refs, and local repositories that know it as `origin`."""
 
     def __init__(self, folder, program):
-        self.folder, self.environment = folder, environment(program)
-        self.remote = os.path.join(folder, "remote")
+        self.folder, self.environment = Path(folder), environment(program)
+        self.remote = self.folder / "remote"
         subprocess.run(["git", "init", "-q", "-b", "main", self.remote], env=self.environment, check=True)
         self.git(self.remote, "commit", "-q", "--allow-empty", "-m", "one")
         commit = self.git(self.remote, "rev-parse", "HEAD").decode().strip()
@@ -215,19 +204,16 @@ class Repositories:
         self.git(self.remote, "pack-refs", "--all")
 
     def run(self, folder, *words):
-        return subprocess.run(["git", "-C", folder, *words], env=self.environment, capture_output=True, check=False)
+        return repositories.run(folder, ["git", *words], self.environment)
 
     def git(self, folder, *words, status=0):
-        made = self.run(folder, *words)
-        if made.returncode != status:
-            fail(f"git {words}: status {made.returncode}: {made.stderr!r}")
-        return made.stdout
+        return repositories.git(folder, self.environment, *words, status=status)
 
     def local(self, name, specs, settings=()):
         """A new local repository whose remote has these fetch values, with these settings."""
-        path = os.path.join(self.folder, name)
+        path = self.folder / name
         subprocess.run(["git", "init", "-q", "-b", "main", path], env=self.environment, check=True)
-        self.git(path, "config", "remote.origin.url", self.remote)
+        self.git(path, "config", "remote.origin.url", str(self.remote))
         self.git(path, "config", "remote.origin.tagOpt", "--no-tags")
         for spec in specs:
             self.git(path, "config", "--add", "remote.origin.fetch", spec)
@@ -246,7 +232,7 @@ class Repositories:
         dry = self.run(path, "-c", "fetch.output=full", "fetch", "--dry-run")
         rows = [TOLD.fullmatch(line) for line in dry.stderr.splitlines() if line[:1] == b" "]
         if dry.returncode != 0 or None in rows:
-            fail(f"{specs}: a dry run: status {dry.returncode}: {dry.stderr[-500:]!r}")
+            stop(f"{specs}: a dry run: status {dry.returncode}: {dry.stderr[-500:]!r}")
         self.differ(specs, "a dry run", changes, {row.groups() for row in rows})
         self.git(path, "fetch", "-q")
         written = self.refs(path)
@@ -264,7 +250,7 @@ class Repositories:
         made = self.run(path, "fetch", "-q", *options, "origin", *specs)
         is_refused = b"missing: " in planned.stderr or b"conflict: " in planned.stderr
         if is_refused != (made.returncode != 0):
-            fail(f"{words}: the plan and a fetch: {planned.stderr!r}, {made.stderr!r}")
+            stop(f"{words}: the plan and a fetch: {planned.stderr!r}, {made.stderr!r}")
         self.differ(words, "a fetch", {(name, theirs[source]) for source, name in zip(fields[::4], fields[1::4]) if name},
                     set(self.refs(path).items()))
         # Values that are applied to what given specs take aren't in FETCH_HEAD.
@@ -275,8 +261,7 @@ class Repositories:
     @staticmethod
     def fetched(path):
         """The refs that FETCH_HEAD has."""
-        with open(os.path.join(path, ".git", "FETCH_HEAD"), "rb") as file:
-            notes = [line.split(b"\t", 2)[2] for line in file]
+        notes = [line.split(b"\t", 2)[2] for line in (path / ".git" / "FETCH_HEAD").read_bytes().splitlines(keepends=True)]
         names = set()
         for note in notes:
             kinds = [(kind, folder) for kind, folder in KINDS if note.startswith(kind)]
@@ -297,7 +282,7 @@ class Repositories:
         before = set(self.refs(path))
         made = self.run(path, "fetch", "-q", "--prune", "origin", *specs)
         if {listed.returncode, planned.returncode} != {int(made.returncode != 0)}:
-            fail(f"{names}: stale, a plan and a pruning fetch: {listed!r}, {planned!r}, {made!r}")
+            stop(f"{names}: stale, a plan and a pruning fetch: {listed!r}, {planned!r}, {made!r}")
         self.differ(names, "a pruning fetch", told, before - set(self.refs(path)))
         self.differ(names, "the table", told, {os.fsencode(name) for name in stale})
 
@@ -309,7 +294,7 @@ class Repositories:
     @staticmethod
     def differ(specs, what, planned, written):
         if planned != written:
-            fail(f"{specs}: the plan and {what} differ by {sorted(planned ^ written)[:5]}")
+            stop(f"{specs}: the plan and {what} differ by {sorted(planned ^ written)[:5]}")
 
 
 def check_plans(program):
@@ -331,82 +316,38 @@ def check_plans(program):
 # What a call may take of a processor, in seconds: ten times what it takes, or more. One that looks at each pair of remotes or at
 # each pair of bytes takes longer.
 BOUND = 2
+LETTERS = "a" * 100_000
+ONE_REMOTE = '[remote "origin"]\n\turl = x\n'
+REMOTE = '[remote "r{0}"]\n\turl = x\n\tfetch = +refs/heads/*:refs/remotes/r{0}/*\n'
+VALUES = "\tfetch = refs/heads/b{0}:refs/remotes/origin/b{0}\n\tfetch = +refs/heads/t{0}/*:refs/remotes/origin/t{0}/*\n"
+OVERLAPPING = f"\tfetch = ^refs/heads/*\n\tfetch = refs/heads/*:refs/x/{LETTERS}*\n\tfetch = refs/tags/*:refs/x/*{LETTERS}\n"
+# What a configuration has, what it says, a call, and whether it answers well: a tracking ref is told of 200 remotes, a remote of
+# 1,000 values is checked, and two patterns that overlap in up to 100,000 equal letters.
+SOON = (
+    ("200 remotes", "".join(map(REMOTE.format, range(200))), "track r77/main",
+     lambda made: made.stdout == b"r77  refs/remotes/r77/main  refs/heads/main  +refs/heads/*:refs/remotes/r77/*\n"),
+    ("1,000 values", ONE_REMOTE + "".join(map(VALUES.format, range(500))), "check",
+     lambda made: not (made.returncode or made.stdout or made.stderr)),
+    ("two long values", ONE_REMOTE + OVERLAPPING, "check",
+     lambda made: not (made.returncode or made.stdout) and made.stderr.count(b"warning: ") == 1),
+)
 
 
-def check_many_remotes(program):
-    """Of 200 remotes a tracking ref is told soon."""
+def check_soon(program, what, configuration, call, is_answered):
+    """A call is answered soon, whatever the configuration has."""
     with tempfile.TemporaryDirectory() as folder:
         variables = environment(program)
         subprocess.run(["git", "init", "-q", folder], env=variables, check=True)
-        with open(os.path.join(folder, ".git", "config"), "a", encoding="ascii") as file:
-            for number in range(200):
-                file.write(f'[remote "r{number}"]\n\turl = x\n\tfetch = +refs/heads/*:refs/remotes/r{number}/*\n')
+        with (Path(folder) / ".git" / "config").open("a", encoding="ascii") as file:
+            file.write(configuration)
         before = resource.getrusage(resource.RUSAGE_CHILDREN)
-        made = shell("git refspec track r77/main", folder, variables)
+        made = shell(f"git refspec {call}", folder, variables)
         after = resource.getrusage(resource.RUSAGE_CHILDREN)
-        if made.stdout != b"r77  refs/remotes/r77/main  refs/heads/main  +refs/heads/*:refs/remotes/r77/*\n":
-            fail(f"track of 200 remotes: {made!r}")
+        if not is_answered(made):
+            stop(f"{call} of {what}: status {made.returncode}, {made.stdout[:200]!r}, {made.stderr[:200]!r}")
         took = after.ru_utime + after.ru_stime - before.ru_utime - before.ru_stime
         if took > BOUND:
-            fail(f"track of 200 remotes took {took:.2f} seconds")
-
-
-def check_many_values(program):
-    """A remote of 1,000 values is checked soon."""
-    with tempfile.TemporaryDirectory() as folder:
-        variables = environment(program)
-        subprocess.run(["git", "init", "-q", folder], env=variables, check=True)
-        with open(os.path.join(folder, ".git", "config"), "a", encoding="ascii") as file:
-            file.write('[remote "origin"]\n\turl = x\n')
-            for number in range(500):
-                file.write(f"\tfetch = refs/heads/b{number}:refs/remotes/origin/b{number}\n")
-                file.write(f"\tfetch = +refs/heads/t{number}/*:refs/remotes/origin/t{number}/*\n")
-        before = resource.getrusage(resource.RUSAGE_CHILDREN)
-        made = shell("git refspec check", folder, variables)
-        after = resource.getrusage(resource.RUSAGE_CHILDREN)
-        if made.returncode or made.stdout or made.stderr:
-            fail(f"check of 1,000 values: {made!r}")
-        took = after.ru_utime + after.ru_stime - before.ru_utime - before.ru_stime
-        if took > BOUND:
-            fail(f"check of 1,000 values took {took:.2f} seconds")
-
-
-def check_long_values(program):
-    """Two patterns that overlap in up to 100,000 equal letters are checked soon."""
-    with tempfile.TemporaryDirectory() as folder:
-        variables = environment(program)
-        subprocess.run(["git", "init", "-q", folder], env=variables, check=True)
-        letters = "a" * 100_000
-        with open(os.path.join(folder, ".git", "config"), "a", encoding="ascii") as file:
-            file.write('[remote "origin"]\n\turl = x\n\tfetch = ^refs/heads/*\n')
-            file.write(f"\tfetch = refs/heads/*:refs/x/{letters}*\n\tfetch = refs/tags/*:refs/x/*{letters}\n")
-        before = resource.getrusage(resource.RUSAGE_CHILDREN)
-        made = shell("git refspec check", folder, variables)
-        after = resource.getrusage(resource.RUSAGE_CHILDREN)
-        if made.returncode or made.stdout or made.stderr.count(b"warning: ") != 1:
-            fail(f"check of two long values: status {made.returncode}, {made.stderr[:200]!r}")
-        took = after.ru_utime + after.ru_stime - before.ru_utime - before.ru_stime
-        if took > BOUND:
-            fail(f"check of two long values took {took:.2f} seconds")
-
-
-def on_terminal(words, folder, variables):
-    """What a command writes to a terminal."""
-    ours, theirs = pty.openpty()
-    process = subprocess.Popen(words, cwd=folder, env=variables, stdin=theirs, stdout=theirs, stderr=theirs)
-    os.close(theirs)
-    output = b""
-    try:
-        while True:
-            read = os.read(ours, 4096)
-            if not read:
-                break
-            output += read
-    except OSError:
-        pass
-    os.close(ours)
-    process.wait()
-    return output.replace(b"\r\n", b"\n")
+            stop(f"{call} of {what} took {took:.2f} seconds")
 
 
 # Calls in a repository with one fetch value and one merged ref, each with the end of what it writes to a terminal.
@@ -421,50 +362,49 @@ TERMINAL = (
 )
 
 
-def check_terminal(program):
+def check_terminal(program, remote):
     """A terminal alone is told of a slow remote, of a check that finds nothing, and of the size of a plan."""
     with tempfile.TemporaryDirectory() as folder:
         variables = environment(program)
-        here = os.path.join(folder, "here")
-        shell(f"git clone -q '{Sample.remote}' here", folder, variables)
+        here = Path(folder) / "here"
+        shell(f"git clone -q '{remote}' here", folder, variables)
         slow = {**variables, "GIT_SSH_COMMAND": "sleep 3; exit 1"}
-        told = on_terminal(["git", "refspec", "plan", "ssh://host/path"], here, slow)
+        told = programs.on_terminal(["git", "refspec", "plan", "ssh://host/path"], cwd=here, env=slow)
         if not told.startswith(b"git refspec: waiting for git ls-remote -- ssh://host/path\n"):
-            fail(f"a slow remote on a terminal: {told!r}")
+            stop(f"a slow remote on a terminal: {told!r}")
         untold = subprocess.run(["git", "refspec", "plan", "ssh://host/path"], cwd=here, env=slow, capture_output=True, check=False)
         if b"waiting" in untold.stderr or untold.returncode != 128:
-            fail(f"a slow remote without a terminal: {untold!r}")
+            stop(f"a slow remote without a terminal: {untold!r}")
         shell("git config remote.origin.fetch refs/heads/main:refs/x/main; git config branch.main.merge refs/heads/dev",
               here, variables)
         for words, end in TERMINAL:
-            told = on_terminal(["git", "refspec", *words], here, variables)
+            told = programs.on_terminal(["git", "refspec", *words], cwd=here, env=variables)
             if not told.endswith(end):
-                fail(f"{words} on a terminal: {told!r}")
+                stop(f"{words} on a terminal: {told!r}")
 
 
-def check_manual(program):
+def check_manual(program, remote):
     """The synopses of the manual page run, and its examples print what the page says."""
-    with open(os.path.join(TOP, "man", "git-refspec.1"), encoding="utf-8") as file:
-        page = file.read()
+    page = (ROOT / "man" / "git-refspec.1").read_text(encoding="utf-8")
     variables = environment(program)
     with tempfile.TemporaryDirectory() as folder:
-        here = os.path.join(folder, "here")
-        shutil.copytree(Sample.remote, os.path.join(folder, "remote"))
+        here = Path(folder) / "here"
+        shutil.copytree(remote, Path(folder) / "remote")
         shell("git clone -q remote here", folder, variables)
         count = 0
         for command in synopses(page.split(".Sh DESCRIPTION")[0]):
             made = shell(command, here, variables)
             if made.returncode or made.stderr:
-                fail(f"the synopsis {command!r}: {made!r}")
+                stop(f"the synopsis {command!r}: {made!r}")
             count += 1
         for command, output in examples(page.split(".Sh EXAMPLES")[1]):
             made = shell(command, here, variables)
             if (made.stdout + made.stderr).decode() != output:
-                fail(f"the example {command!r}: {made!r}")
+                stop(f"the example {command!r}: {made!r}")
             count += 1
-        shown = shell("git refspec --help", here, {**variables, "MANPATH": os.path.join(TOP, "man"), "PAGER": "cat"})
+        shown = shell("git refspec --help", here, {**variables, "MANPATH": ROOT / "man", "PAGER": "cat"})
         if b"GIT-REFSPEC" not in shown.stdout and shutil.which("man") and b"No manual entry" not in shown.stderr:
-            fail(f"--help: {shown!r}")
+            stop(f"--help: {shown!r}")
         return count
 
 
@@ -524,13 +464,15 @@ line=$1; COMP_LINE=$line; COMP_POINT=${#line}; read -ra COMP_WORDS <<<"$line"
 COMP_CWORD=$((${#COMP_WORDS[@]} - 1)); COMPREPLY=()
 __git_wrap__git_main && printf '%s\n' "${COMPREPLY[@]}"
 """
-def check_completion(program):
+
+
+def check_completion(program, remote):
     """What shells complete words to. Returns their names."""
     tried = []
     with tempfile.TemporaryDirectory() as folder:
         variables = environment(program)
-        here = os.path.join(folder, "here")
-        shell(f"git clone -q '{Sample.remote}' here", folder, variables)
+        here = Path(folder) / "here"
+        shell(f"git clone -q '{remote}' here", folder, variables)
         for name, complete in (("bash", complete_in_bash), ("zsh", complete_in_zsh), ("fish", complete_in_fish)):
             if not shutil.which(name) or not complete("git refspec ", here, variables):
                 continue
@@ -538,15 +480,15 @@ def check_completion(program):
             for line, wanted in COMPLETIONS:
                 found = complete(line, here, variables)
                 if not set(wanted) <= set(found):
-                    fail(f"{name} completes {line!r} to {found!r}")
+                    stop(f"{name} completes {line!r} to {found!r}")
     return tried
 
 
 def complete_in_bash(line, folder, variables):
-    git = "/usr/share/bash-completion/completions/git"
-    if not os.path.exists(git):
+    git = Path("/usr/share/bash-completion/completions/git")
+    if not git.exists():
         return []
-    ours = os.path.join(TOP, "completions", "git-refspec.bash")
+    ours = ROOT / "completions" / "git-refspec.bash"
     made = subprocess.run(["bash", "-c", BASH, "bash", line], cwd=folder, env={**variables, "git": git, "ours": ours},
                           capture_output=True, check=False)
     return [word.strip() for word in made.stdout.decode().split("\n")]
@@ -566,47 +508,46 @@ for i in {1..60}; do sleep 0.05; [[ -s $out ]] && { sleep 0.3; break }; done
 zpty -d z
 """
     with tempfile.TemporaryDirectory() as notes:
-        out = os.path.join(notes, "out")
-        ours = os.path.join(TOP, "completions", "_git-refspec")
+        out, ours = Path(notes) / "out", ROOT / "completions" / "_git-refspec"
         subprocess.run(["zsh", "-f", "-c", script], cwd=folder, capture_output=True, check=False, stdin=subprocess.DEVNULL,
-                       env={**variables, "out": out, "ours": os.path.abspath(ours), "line": line, "HOME": notes, "TERM": "dumb"})
-        if not os.path.exists(out):
-            return []
-        with open(out, encoding="utf-8") as file:
-            return file.read().split("\n")
+                       env={**variables, "out": out, "ours": ours, "line": line, "HOME": notes, "TERM": "dumb"})
+        return out.read_text(encoding="utf-8").split("\n") if out.exists() else []
 
 
 def complete_in_fish(line, folder, variables):
-    ours = os.path.abspath(os.path.join(TOP, "completions", "git-refspec.fish"))
+    ours = ROOT / "completions" / "git-refspec.fish"
     made = subprocess.run(["fish", "-c", f"source '{ours}'; complete -C '{line}'"], cwd=folder,
                           env={**variables, "HOME": folder}, capture_output=True, check=False)
     return [word.split("\t")[0] for word in made.stdout.decode().split("\n")]
 
 
 def main():
-    words = [word for word in sys.argv[1:] if word not in ("--record", "--stored")]
-    if len(words) != 1 or len(sys.argv) > 3:
-        sys.exit(__doc__)
+    arguments = parser(__doc__)
+    only = arguments.add_mutually_exclusive_group()
+    for name in ("--record", "--stored"):
+        only.add_argument(name, action="store_true")
+    add_path(arguments, "program")
+    options = arguments.parse_args()
     if not shutil.which("git"):
         print("git-refspec: left out, as there is no git")
         return
-    program, record = os.path.abspath(words[0]), "--record" in sys.argv
+    program = options.program
     with tempfile.TemporaryDirectory() as folder:
-        Sample.remote = os.path.join(folder, "remote")
-        make_remote(Sample.remote, environment(program))
-        calls = Sample(program).replay_all(record)
-        if len(sys.argv) > 2:
-            print(f"git-refspec: {calls} calls in {len(LOCALES)} locales {'recorded' if record else 'answered as stored'}")
+        remote = Path(folder) / "remote"
+        make_remote(remote, environment(program))
+        calls = Sample(program, remote).replay_all(options.record)
+        if options.record or options.stored:
+            print(f"git-refspec: {calls} calls in {len(LOCALES)} locales {'recorded' if options.record else 'answered as stored'}")
             return
-        check_many_remotes(program)
-        check_many_values(program)
-        check_long_values(program)
-        commands = check_manual(program)
-        check_terminal(program)
-        shells = check_completion(program)
+        for row in SOON:
+            check_soon(program, *row)
+        commands = check_manual(program, remote)
+        check_terminal(program, remote)
+        shells = check_completion(program, remote)
     written = check_plans(program)
     print(f"git-refspec: {calls} calls in {len(LOCALES)} locales; {commands} commands of the manual page; {len(PLANS)} plans as a "
           f"dry run tells and Git fetches, of {written} refs; completed in {', '.join(shells) or 'no shell'}")
 
 
-main()
+if __name__ == "__main__":
+    main()

@@ -12,10 +12,10 @@ import signal
 import subprocess
 import sys
 import time
+from pathlib import Path
 
-sys.dont_write_bytecode = True
-sys.path.insert(0, os.path.dirname(os.path.dirname(os.path.abspath(__file__))))
-from helpers import scripted
+sys.path.insert(0, str(Path(__file__).resolve().parents[1]))
+from helpers import paths, scripted, stop
 
 SIGNALS = (signal.SIGHUP, signal.SIGINT, signal.SIGTERM)
 CALLS = (["plan", "--prune", "origin"], ["check"], ["stale"], ["track", "@{u}", "origin/main"], ["prefixes"], ["--help"])
@@ -25,7 +25,7 @@ MARK = "GIT_REFSPEC_INTERRUPTED"
 
 
 def fail(words, step, what, told):
-    sys.exit(f"tests/refspec/interrupted.py: {words}, step {step}, {what}: {told}")
+    stop(f"{words}, step {step}, {what}: {told}")
 
 
 def wait_until(holds):
@@ -42,9 +42,8 @@ def processes(mark):
     found = []
     for name in filter(str.isdigit, os.listdir("/proc")):
         try:
-            with open(f"/proc/{name}/environ", "rb") as file:
-                if f"{MARK}={mark}".encode() in file.read().split(b"\0"):
-                    found.append(name)
+            if f"{MARK}={mark}".encode() in Path(f"/proc/{name}/environ").read_bytes().split(b"\0"):
+                found.append(name)
         except OSError:
             continue
     return found
@@ -63,8 +62,8 @@ class Call:
 
     def is_reached(self):
         """Whether it comes to its step, and doesn't end before."""
-        wait_until(lambda: os.path.exists(self.repository.path("reached")) or self.process.poll() is not None)
-        return os.path.exists(self.repository.path("reached"))
+        wait_until(lambda: self.repository.path("reached").exists() or self.process.poll() is not None)
+        return self.repository.path("reached").exists()
 
     def go_on(self):
         self.repository.write("go", b"")
@@ -100,8 +99,7 @@ def steps_of(program, words):
     """How many steps a call has."""
     with scripted.Repository(program) as repository:
         subprocess.run([scripted.SCRIPT, *words], env=repository.variables(STEP="0"), capture_output=True, check=False)
-        with open(repository.path("steps"), "rb") as file:
-            return len(file.readlines())
+        return len(repository.path("steps").read_bytes().splitlines())
 
 
 def end_by(program, words, step, number, has_terminal):
@@ -136,9 +134,7 @@ def end_at(program, words, step):
 
 
 def main():
-    if len(sys.argv) != 2:
-        sys.exit(__doc__)
-    program = os.path.abspath(sys.argv[1])
+    program = paths(__doc__, "program")
     # Whoever runs this in the background may have it ignore some, and then no script below it can heed them.
     for number in SIGNALS:
         signal.signal(number, signal.SIG_DFL)
@@ -149,4 +145,5 @@ def main():
           " pipe, leave no file and no process")
 
 
-main()
+if __name__ == "__main__":
+    main()

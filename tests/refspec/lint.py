@@ -10,16 +10,18 @@ import concurrent.futures
 import importlib
 import os
 import sys
+from pathlib import Path
 
-HERE = os.path.dirname(os.path.dirname(os.path.abspath(__file__)))
-TOP = os.path.join(HERE, os.pardir)
-SAMPLE = os.path.join(HERE, "samples", "lint.sample")
-LIBRARY = os.path.join(TOP, "out", "lib", "libgix_refspec.so")
-sys.dont_write_bytecode = True
-sys.path[:0] = [os.path.join(TOP, "tools", "oracle"), os.path.join(TOP, "bindings", "python")]
+sys.path.insert(0, str(Path(__file__).resolve().parents[1]))
+from helpers import ORACLE, PYTHON, ROOT, add_path, parser, samples, stop, use
+
+use(ORACLE, PYTHON)
 import gitfetch
 import lint
 import warned
+
+SAMPLE = samples.FOLDER / "lint.sample"
+LIBRARY = ROOT / "out" / "lib" / "libgix_refspec.so"
 
 
 def spec_of(text):
@@ -32,7 +34,7 @@ class Planner:
     """The plans of the library, as mappings of lint.py."""
 
     def __init__(self, library):
-        os.environ["GIX_REFSPEC_LIBRARY"] = library
+        os.environ["GIX_REFSPEC_LIBRARY"] = str(library)
         self.module = importlib.import_module("gix_refspec")
         verdict = self.module.Verdict
         self.valid = {verdict.WRITTEN, verdict.CONTESTED, verdict.DIRECTORY_CONFLICT}
@@ -80,19 +82,20 @@ def differences(program, library, stored):
 
 
 def main():
-    if len(sys.argv) not in (2, 3):
-        sys.exit(__doc__)
-    program, library = os.path.abspath(sys.argv[1]), os.path.abspath(sys.argv[2] if len(sys.argv) == 3 else LIBRARY)
-    if not os.path.exists(library):
+    arguments = parser(__doc__)
+    add_path(arguments, "refspec")
+    add_path(arguments, "library", nargs="?", default=LIBRARY)
+    options = arguments.parse_args()
+    program, library = options.refspec, options.library
+    if not library.exists():
         print("lint: left out is what the library makes, as it isn't built")
         library = None
     groups = gitfetch.stored_lists(SAMPLE)
     with concurrent.futures.ProcessPoolExecutor(os.cpu_count()) as pool:
         found = list(pool.map(differences, [program] * len(groups), [library] * len(groups), groups, chunksize=5))
-    wrong = [f"tests/refspec/lint.py: the group at line {stored.number} of lint.sample: {what}"
-             for stored, what in zip(groups, found) if what]
+    wrong = [f"the group at line {stored.number} of lint.sample: {what}" for stored, what in zip(groups, found) if what]
     if wrong:
-        sys.exit("\n".join(wrong))
+        stop("\n".join(wrong))
     count = sum(bool(stored.answer) for stored in groups)
     print(f"lint: {len(groups)} stored groups, {count} of them with what is warned of, as the program and the library say")
 

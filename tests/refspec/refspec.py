@@ -5,18 +5,17 @@ the options of its manual page, and its time: tests/refspec/refspec.py PROGRAM
 All else is in tests/samples/refspec.sample, which tests/refspec/replay.py replays.
 """
 import os
-import pty
 import re
 import subprocess
 import sys
 import tempfile
 import time
+from pathlib import Path
 
-sys.dont_write_bytecode = True
-sys.path.insert(0, os.path.dirname(os.path.dirname(os.path.abspath(__file__))))
-from helpers import runs
+sys.path.insert(0, str(Path(__file__).resolve().parents[1]))
+from helpers import ROOT, paths, programs, stop
 
-PAGE = os.path.join(os.path.dirname(os.path.dirname(os.path.abspath(__file__))), "..", "man", "refspec.1")
+PAGE = ROOT / "man" / "refspec.1"
 COMMANDS = ("check", "explain", "canon", "plan", "stale", "track", "prefixes")
 NOT_READ = b"refspec: the input could not be read to its end\n"
 NOT_WRITTEN = b"refspec: the output could not be written\n"
@@ -26,18 +25,18 @@ ID = "1" * 40
 def expect(made, words, what, message=None, status=3):
     """The run has the status, and says only the message, or nothing where that can't be written."""
     if made.returncode != status or made.stdout or made.stderr != message:
-        sys.exit(f"tests/refspec/refspec.py: {words}: {what}: status {made.returncode}, output {made.stdout!r},"
-                 f" messages {made.stderr!r}")
+        stop(f"{words}: {what}: status {made.returncode}, output {made.stdout!r},"
+             f" messages {made.stderr!r}")
 
 
 def check_outputs(program):
     """Results and messages that can't be written. If nobody reads them, a run ends quietly, as one by SIGPIPE does."""
-    for kind in runs.OUTPUTS:
+    for kind in programs.OUTPUTS:
         message, status = (b"", 141) if kind == "unread" else (NOT_WRITTEN, 3)
         for words in (["canon", "a"], ["plan", "--json", "1" * 40], ["--help"], ["--version"]):
-            made = runs.run_to(kind, 1, [program, *words], b"", subprocess.PIPE)
+            made = programs.run_to(kind, 1, [program, *words], b"", subprocess.PIPE)
             expect(made, words, f"the output is {kind}", message, status)
-        made = runs.run_to(kind, 2, [program, "check"], b"a..b\n", subprocess.PIPE)
+        made = programs.run_to(kind, 2, [program, "check"], b"a..b\n", subprocess.PIPE)
         expect(made, ["check"], f"the standard error is {kind}", status=status)
 
 
@@ -51,23 +50,6 @@ def check_inputs(program):
         expect(made, words, "the input is a folder", NOT_READ)
         made = subprocess.run([program, *words], preexec_fn=lambda: os.close(0), capture_output=True, check=False)
         expect(made, words, "the input is closed", NOT_READ)
-
-
-def told_on_terminal(words, text):
-    """The messages of a run on a terminal."""
-    ours, theirs = pty.openpty()
-    subprocess.run(words, input=text, stdout=subprocess.DEVNULL, stderr=theirs, check=False)
-    os.close(theirs)
-    told = b""
-    while True:
-        try:
-            part = os.read(ours, 65536)
-        except OSError:
-            part = b""
-        if not part:
-            os.close(ours)
-            return told.replace(b"\r\n", b"\n")
-        told += part
 
 
 def check_summary(program):
@@ -88,30 +70,29 @@ def check_summary(program):
             (["-z", "--read-z", "refs/x/*:refs/y/*"], None),
             (["--json", "refs/heads/*:refs/o/*"], None),
             (["refs/heads/a:refs/o/a", "refs/heads/b:refs/o/a"], None)):
-        told = told_on_terminal([program, "plan", *words], refs)
+        told = programs.on_terminal([program, "plan", *words], refs)
         if told != wanted and (wanted is not None or re.search(rb"refs? by [0-9]", told)):
-            sys.exit(f"tests/refspec/refspec.py: plan {words} on a terminal: {told!r}")
+            stop(f"plan {words} on a terminal: {told!r}")
     with tempfile.NamedTemporaryFile() as file:
         file.write(b"refs/heads/b:refs/o/b\n")
         file.flush()
-        told = told_on_terminal([program, "plan", "--configured", file.name, "--merge", "refs/heads/a"], refs)
+        told = programs.on_terminal([program, "plan", "--configured", file.name, "--merge", "refs/heads/a"], refs)
     if told != b"2 refs by 2 specs\n":
-        sys.exit(f"tests/refspec/refspec.py: a plan of a value and of what a branch merges on a terminal: {told!r}")
-    told = told_on_terminal([program, "plan", "refs/heads/*:refs/o/*"], refs + f"{ID}\trefs/heads/a..b\n".encode())
+        stop(f"a plan of a value and of what a branch merges on a terminal: {told!r}")
+    told = programs.on_terminal([program, "plan", "refs/heads/*:refs/o/*"], refs + f"{ID}\trefs/heads/a..b\n".encode())
     if not told.endswith(b"\n3 refs by 1 spec; 1 left out for an invalid name\n"):
-        sys.exit(f"tests/refspec/refspec.py: a plan with an invalid name on a terminal: {told!r}")
+        stop(f"a plan with an invalid name on a terminal: {told!r}")
 
 
 def check_page(program):
     """Each long option that a page of help has stands in the manual page."""
-    with open(PAGE, encoding="utf-8") as file:
-        page = file.read()
+    page = PAGE.read_text(encoding="utf-8")
     known = set(re.findall(r"--([a-z][a-z-]*)", page)) | set(re.findall(r"\bFl Fl ([a-z][a-z-]*)", page))
     for words in ([], *([command] for command in COMMANDS)):
         made = subprocess.run([program, *words, "--help"], capture_output=True, text=True, check=True)
         missing = set(re.findall(r"--([a-z][a-z-]*)", made.stdout)) - known
         if missing:
-            sys.exit(f"tests/refspec/refspec.py: man/refspec.1 has no {sorted(missing)} of {[*words, '--help']}")
+            stop(f"man/refspec.1 has no {sorted(missing)} of {[*words, '--help']}")
 
 
 def check_many(program):
@@ -121,7 +102,7 @@ def check_many(program):
     for values, words, count in ((equal, b"    Remove it.\n", 99), (alike, b" What else depends on it is left open.", 69)):
         made = subprocess.run([program, "check"], input="\n".join(values).encode(), capture_output=True, check=True, timeout=300)
         if made.stderr.count(words) != count:
-            sys.exit(f"tests/refspec/refspec.py: check of {values[-2:]} and more says {words!r} {made.stderr.count(words)} times")
+            stop(f"check of {values[-2:]} and more says {words!r} {made.stderr.count(words)} times")
 
 
 def check_time(program):
@@ -139,18 +120,17 @@ def check_time(program):
                 best = min(best, time.monotonic() - begun)
             taken.append(best)
     if taken[1] > 4 * taken[0] + 1:
-        sys.exit(f"tests/refspec/refspec.py: 200,000 refs take {taken[1]:.2f} s, and sort {taken[0]:.2f} s")
+        stop(f"200,000 refs take {taken[1]:.2f} s, and sort {taken[0]:.2f} s")
     return taken
 
 
 def main():
-    if len(sys.argv) != 2:
-        sys.exit(__doc__)
-    program = os.path.abspath(sys.argv[1])
+    program = paths(__doc__, "program")
     for check in (check_outputs, check_inputs, check_summary, check_page, check_many):
         check(program)
     taken = check_time(program)
     print(f"refspec: inputs and outputs that fail; 200,000 refs in {taken[1]:.2f} s, sort in {taken[0]:.2f} s")
 
 
-main()
+if __name__ == "__main__":
+    main()

@@ -9,17 +9,13 @@ import re
 import subprocess
 import sys
 import tempfile
+from pathlib import Path
 
-SAMPLE = os.path.join(os.path.dirname(os.path.dirname(os.path.abspath(__file__))), "samples", "refspec.sample")
+sys.path.insert(0, str(Path(__file__).resolve().parents[1]))
+from helpers import add_path, parser, stop
+from helpers.samples import COMMENT, Blocks, escaped, plain
+
 ANSWERS = (b">", b"!", b"?")
-
-
-def plain(field):
-    return re.sub(rb"\\x([0-9a-f]{2})", lambda found: bytes([int(found[1], 16)]), field)
-
-
-def escaped(text):
-    return re.sub(rb"[^ -~]|\\(?=x|\Z)| \Z", lambda found: b"\\x%02x" % found[0][0], text)
 
 
 def joined(lines):
@@ -52,8 +48,7 @@ def answer(program, lines):
     given = joined(line[2:] for line in lines if line.startswith(b"<"))
     with tempfile.TemporaryDirectory() as folder:
         for name, content in files_of(lines).items():
-            with open(os.path.join(folder.encode(), name), "wb") as file:
-                file.write(content)
+            (Path(folder) / os.fsdecode(name)).write_bytes(content)
         # Messages on arguments name the program as it is called.
         made = subprocess.run([b"refspec", *words], executable=program, input=given, cwd=folder, capture_output=True,
                               check=False)
@@ -61,11 +56,10 @@ def answer(program, lines):
     return parted(b">", made.stdout) + parted(b"!", made.stderr) + status
 
 
-def record(blocks, runs, answers):
+def record(sample, runs, answers):
     for (number, _), made in zip(runs, answers):
-        blocks[number] = [line for line in blocks[number] if not line.startswith(ANSWERS)] + made
-    with open(SAMPLE, "wb") as file:
-        file.write(b"\n\n".join(b"\n".join(block) for block in blocks) + b"\n")
+        sample.blocks[number] = [line for line in sample.blocks[number] if not line.startswith(ANSWERS)] + made
+    sample.write()
 
 
 def compare(runs, answers):
@@ -74,24 +68,24 @@ def compare(runs, answers):
     if others:
         lines, made = others[0]
         first = b"\n".join([*lines, b"", b"Now it is answered:", *made]).decode()
-        sys.exit(f"tests/refspec/replay.py: {len(others)} of {len(runs)} runs are answered otherwise; the first:\n{first}")
+        stop(f"{len(others)} of {len(runs)} runs are answered otherwise; the first:\n{first}")
 
 
 def main():
-    recording, program = sys.argv[1:2] == ["--record"], os.path.abspath(sys.argv[-1])
-    if len(sys.argv) != 2 + recording:
-        sys.exit(__doc__)
-    with open(SAMPLE, "rb") as file:
-        blocks = [block.split(b"\n") for block in file.read().rstrip(b"\n").split(b"\n\n")]
-    uncommented = [[line for line in block if not line.startswith(b"#")] for block in blocks]
+    arguments = parser(__doc__)
+    arguments.add_argument("--record", action="store_true")
+    add_path(arguments, "program")
+    options, sample = arguments.parse_args(), Blocks("refspec.sample")
+    uncommented = [[line for line in block if not line.startswith(COMMENT)] for block in sample.blocks]
     runs = [(number, lines) for number, lines in enumerate(uncommented) if lines]
     with concurrent.futures.ThreadPoolExecutor() as pool:
-        answers = list(pool.map(lambda run: answer(program, run[1]), runs))
-    if recording:
-        record(blocks, runs, answers)
+        answers = list(pool.map(lambda run: answer(options.program, run[1]), runs))
+    if options.record:
+        record(sample, runs, answers)
     else:
         compare(runs, answers)
-    print(f"replay-refspec: {len(runs)} runs {'recorded' if recording else 'answered as stored'}")
+    print(f"replay-refspec: {len(runs)} runs {'recorded' if options.record else 'answered as stored'}")
 
 
-main()
+if __name__ == "__main__":
+    main()

@@ -5,10 +5,13 @@ Each spec of two sides has two patterns, or two sides that begin refs/. So of th
 on the right, `lhs` over the left ones and `rhs` over the right ones have to map the same pairs. The groups
 are from a fixed seed. A stored group with another spec shows that without the condition they differ.
 """
-import os
 import random
 import subprocess
 import sys
+from pathlib import Path
+
+sys.path.insert(0, str(Path(__file__).resolve().parents[1]))
+from helpers import paths, stop
 
 GROUPS = 300
 ID = b"1" * 40
@@ -52,7 +55,7 @@ def mapped(program, command, specs, refs):
     made = subprocess.run([program, command], input=text, stdout=subprocess.PIPE, check=False)
     fields = [line.split(b"\t")[3:] for line in made.stdout.splitlines()]
     if made.returncode != 0:
-        sys.exit(f"tests/refspec_map/agree.py: {command}: status {made.returncode}, {made.stdout!r} for {text!r}")
+        stop(f"{command}: status {made.returncode}, {made.stdout!r} for {text!r}")
     return {tuple(pair) for pair in fields}
 
 
@@ -61,21 +64,19 @@ def check_group(program, specs, left, right):
     forward = {pair for pair in mapped(program, "lhs", specs, left) if pair[1:] and pair[1] in right}
     backward = {pair for pair in mapped(program, "rhs", specs, right) if pair[0] in left}
     if forward != backward:
-        sys.exit(f"tests/refspec_map/agree.py: {specs} with {left} and {right}: only lhs maps {forward - backward}, only rhs"
-                 f" {backward - forward}")
+        stop(f"{specs} with {left} and {right}: only lhs maps {forward - backward}, only rhs"
+             f" {backward - forward}")
     return len(forward)
 
 
 def check_other(program):
     specs, left, right, forward, backward = OTHER
     if (mapped(program, "lhs", specs, left), mapped(program, "rhs", specs, right)) != (forward, backward):
-        sys.exit(f"tests/refspec_map/agree.py: {specs} with {left} and {right} isn't mapped as stored")
+        stop(f"{specs} with {left} and {right} isn't mapped as stored")
 
 
 def main():
-    if len(sys.argv) != 2:
-        sys.exit(__doc__)
-    program = os.path.abspath(sys.argv[1])
+    program = paths(__doc__, "program")
     random_ = random.Random(1)
     counts = []
     for _ in range(GROUPS):
@@ -85,9 +86,10 @@ def main():
         right = names(random_, [side[1] for side in sides if side[1:]])
         counts.append(check_group(program, specs, left, right))
     if 2 * counts.count(0) > GROUPS:
-        sys.exit(f"tests/refspec_map/agree.py: {counts.count(0)} groups of {GROUPS} map nothing between their names")
+        stop(f"{counts.count(0)} groups of {GROUPS} map nothing between their names")
     check_other(program)
     print(f"agree: {sum(counts)} pairs of {GROUPS} groups, the same both ways, and a stored group where they differ")
 
 
-main()
+if __name__ == "__main__":
+    main()

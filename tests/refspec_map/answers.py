@@ -4,14 +4,13 @@
 The answers were written down by hand, from the manual page. Each input is given a second time, a byte a call. The texts
 that a canon command accepts are given once more in their canonical form, which doesn't change.
 """
-import os
 import re
 import subprocess
 import sys
+from pathlib import Path
 
-sys.dont_write_bytecode = True
-sys.path.insert(0, os.path.dirname(os.path.dirname(os.path.abspath(__file__))))
-from helpers import runs
+sys.path.insert(0, str(Path(__file__).resolve().parents[1]))
+from helpers import paths, programs, stop
 
 # The longest input, in bytes.
 LIMIT = 1_048_576
@@ -132,7 +131,7 @@ ID = b"1" * 40
 
 
 def fail(words, given, made):
-    sys.exit(f"tests/refspec_map/answers.py: {words} of {given[:80]!r}: {made}")
+    stop(f"{words} of {given[:80]!r}: {made}")
 
 
 def made_of(program, words, given):
@@ -145,7 +144,7 @@ def check(program, library, words, given, wanted):
     made = made_of(program, words, given)
     if made != wanted:
         fail(words, given, f"{made}, not {wanted}")
-    ended, told = runs.run_with(library, [program, *words.split()], {"CALLS_MOST": "1"}, input=given)
+    ended, told = programs.run_with(library, [program, *words.split()], {"CALLS_MOST": "1"}, input=given)
     calls = b"r" * (len(given) + 1) + b"w" * len(wanted[0])
     if (ended.stdout, ended.returncode, told) != (*wanted, calls):
         fail(words, given, f"a byte a call {ended.stdout}, status {ended.returncode}, by {told}, not {wanted}, by {calls}")
@@ -168,11 +167,11 @@ def check_groups(program, library, words, status, rows):
 def check_limit(program, library):
     """As much as an input may have, whose answer is written at once; and a byte more, which is read last."""
     given = b"a" * LIMIT
-    ended, told = runs.run_with(library, [program, "canon", "fetch"], {}, input=given)
+    ended, told = programs.run_with(library, [program, "canon", "fetch"], {}, input=given)
     if (ended.stdout, ended.returncode, told.lstrip(b"r")) != (b"ok " + given + b"\n", 0, b"w"):
         fail("canon fetch", given, f"{ended.stdout[:80]}, status {ended.returncode}, by {told[:80]}")
     for most, reads in (LIMIT, 2), (LIMIT // 4, 5):
-        ended, told = runs.run_with(library, [program, "canon", "fetch"], {"CALLS_MOST": str(most)}, input=given + b"a")
+        ended, told = programs.run_with(library, [program, "canon", "fetch"], {"CALLS_MOST": str(most)}, input=given + b"a")
         if (ended.stdout, ended.returncode) != (b"input too long\n", 3) or told.count(b"r") < reads:
             fail("canon fetch", given + b"a", f"{ended.stdout[:80]}, status {ended.returncode}, by {told[:80]}")
 
@@ -190,17 +189,15 @@ def check_faults(program, library):
         ({"CALLS_MOST": "10", "CALLS_WRITE": "2"}, (output[:10] + lost, 3, b"rr" + b"wWww")),
         ({"CALLS_MOST": "1", "CALLS_WRITE": "1"}, (lost, 3, reads + b"W" + b"w" * len(lost))),
     ]:
-        ended, told = runs.run_with(library, [program, "canon", "push"], variables, input=given)
+        ended, told = programs.run_with(library, [program, "canon", "push"], variables, input=given)
         if (ended.stdout, ended.returncode, told) != wanted:
             fail("canon push", given, f"with {variables} {ended.stdout}, status {ended.returncode}, by {told}, not {wanted}")
 
 
 def main():
-    if len(sys.argv) != 2:
-        sys.exit(__doc__)
-    program = os.path.abspath(sys.argv[1])
+    program = paths(__doc__, "program")
     faults = [(given, answer + b"\n") for given, answer in FAULTS]
-    with runs.library("calls", "-ldl") as library:
+    with programs.library("calls", "-ldl") as library:
         check_canon(program, library, "canon push", PUSHES)
         check_canon(program, library, "canon fetch", FETCHES)
         for words, status, rows in [
@@ -214,4 +211,5 @@ def main():
     print(f"answers: {sum(map(len, rows))} inputs, at once and a byte a call, and one at the limit")
 
 
-main()
+if __name__ == "__main__":
+    main()

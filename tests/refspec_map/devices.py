@@ -5,12 +5,11 @@ A small input takes two reads, of which the second finds its end, and an output 
 fails nothing more is read, and after a write that fails just the fault is written. After an answer the program
 ends: it reads and writes nothing more.
 """
-import os
 import sys
+from pathlib import Path
 
-sys.dont_write_bytecode = True
-sys.path.insert(0, os.path.dirname(os.path.dirname(os.path.abspath(__file__))))
-from helpers import runs
+sys.path.insert(0, str(Path(__file__).resolve().parents[1]))
+from helpers import paths, programs, stop
 
 ID = b"1" * 40
 LINES = b"spec refs/heads/*:x/*\nspec x:y\nref " + ID + b" refs/heads/a\nref " + ID + b" x/b\n"
@@ -34,10 +33,10 @@ def calls_of(given, output):
 
 def check(program, library, case, failing, wanted):
     words, given, *_ = RUNS[case]
-    ended, told = runs.run_with(library, [program, *words.split()], failing, input=given)
+    ended, told = programs.run_with(library, [program, *words.split()], failing, input=given)
     made = ended.stdout, ended.returncode, told.decode()
     if made != wanted:
-        sys.exit(f"tests/refspec_map/devices.py: {words} of {given!r}, {failing or 'nothing fails'}: {made}, not {wanted}")
+        stop(f"{words} of {given!r}, {failing or 'nothing fails'}: {made}, not {wanted}")
 
 
 def check_run(program, library, case):
@@ -57,12 +56,11 @@ def check_run(program, library, case):
 
 
 def main():
-    if len(sys.argv) != 2:
-        sys.exit(__doc__)
-    program = os.path.abspath(sys.argv[1])
-    with runs.library("calls", "-ldl") as library:
+    program = paths(__doc__, "program")
+    with programs.library("calls", "-ldl") as library:
         failures = sum(check_run(program, library, case) for case in range(len(RUNS)))
     print(f"devices: {len(RUNS)} inputs, and {failures} reads and writes that fail, each alone")
 
 
-main()
+if __name__ == "__main__":
+    main()

@@ -5,16 +5,18 @@ The program has to answer what is stored, and git has to fetch or to track what 
 otherwise, it may also do what is stored. Without a git on the PATH nothing is compared.
 """
 import collections
-import os
 import shutil
 import sys
 import tempfile
+from pathlib import Path
 
-HERE = os.path.dirname(os.path.dirname(os.path.abspath(__file__)))
-SAMPLE = os.path.join(HERE, "samples", "git.sample")
-sys.dont_write_bytecode = True
-sys.path.insert(0, os.path.join(HERE, os.pardir, "tools", "oracle"))
+sys.path.insert(0, str(Path(__file__).resolve().parents[1]))
+from helpers import ORACLE, paths, samples, stop, use
+
+use(ORACLE)
 import gitfetch
+
+SAMPLE = samples.FOLDER / "git.sample"
 
 
 def read_given(store, stored):
@@ -24,14 +26,14 @@ def read_given(store, stored):
     names = [line.split(b" ")[-1] for line in lines]
     refs = store.refs(names, [name for name, line in zip(names, lines) if line.startswith(b"tag ")])
     if gitfetch.lines_of([], refs) != lines:
-        sys.exit(f"tests/refspec_map/git.py: the list at line {stored.number} of git.sample: git has other ids, {refs}")
+        stop(f"the list at line {stored.number} of git.sample: git has other ids, {refs}")
     return specs, refs
 
 
 def check_program(program, stored, specs, refs):
     lines = gitfetch.answered(program, stored.command, specs, refs)
     if lines != stored.answer:
-        sys.exit(f"tests/refspec_map/git.py: the list at line {stored.number} of git.sample: {lines}, not {stored.answer}")
+        stop(f"the list at line {stored.number} of git.sample: {lines}, not {stored.answer}")
 
 
 def check_git(store, stored, specs, refs):
@@ -45,18 +47,17 @@ def check_git(store, stored, specs, refs):
         done = gitfetch.source_lines(sources, refs)
         alike = sources == gitfetch.first_sources(stored.answer, refs)
     if not alike and (not stored.kinds or done != stored.done):
-        sys.exit(f"tests/refspec_map/git.py: the list at line {stored.number} of git.sample: git did {done}, which isn't what"
-                 f" {stored.command} says, {stored.answer}, nor what is stored, {stored.done}")
+        stop(f"the list at line {stored.number} of git.sample: git did {done}, which isn't what"
+             f" {stored.command} says, {stored.answer}, nor what is stored, {stored.done}")
     return alike
 
 
 def main():
-    if len(sys.argv) != 2:
-        sys.exit(__doc__)
+    program = paths(__doc__, "program")
     if shutil.which("git") is None:
         print("git: left out, as there is no git on the PATH")
         return
-    program, lists = os.path.abspath(sys.argv[1]), gitfetch.stored_lists(SAMPLE)
+    lists = gitfetch.stored_lists(SAMPLE)
     alike = collections.Counter()
     with tempfile.TemporaryDirectory() as folder:
         store = gitfetch.Store(folder)
@@ -65,9 +66,10 @@ def main():
             check_program(program, stored, specs, refs)
             alike[stored.command] += check_git(store, stored, specs, refs)
     if not (alike["plan"] and alike["rhs"]):
-        sys.exit("tests/refspec_map/git.py: git.sample has no list that git fetches, or none that it tracks, as is answered")
+        stop("git.sample has no list that git fetches, or none that it tracks, as is answered")
     print(f"git: {len(lists)} stored lists: {alike['plan']} fetched by git as plan says, {alike['rhs']} tracked as"
           f" rhs says, and {len(lists) - alike['plan'] - alike['rhs']} otherwise in known ways")
 
 
-main()
+if __name__ == "__main__":
+    main()

@@ -1,18 +1,19 @@
 #!/usr/bin/env python3
-"""Tries the rows of docs/GIT.md that tests/refspec_map/git.py doesn't, each with the input of the row: tests/refspec_map/git_rows.py [PROGRAM]
+"""Tries the rows of docs/GIT.md that tests/refspec_map/git.py doesn't, each with the input of the row:
+tests/refspec_map/git_rows.py [PROGRAM]
 
 PROGRAM is the built refspec_map, which has to answer as the row says, and so has the Git on the PATH. Left out where
 there is none. Without PROGRAM only the rows that speak of Git alone are tried.
 """
-import os
 import re
 import shutil
-import subprocess
 import sys
 import tempfile
+from pathlib import Path
 
-ROOT = os.path.dirname(os.path.dirname(os.path.dirname(os.path.abspath(__file__))))
-PEOPLE = {f"GIT_{who}_{what}": "a@b" for who in ("AUTHOR", "COMMITTER") for what in ("NAME", "EMAIL")}
+sys.path.insert(0, str(Path(__file__).resolve().parents[1]))
+from helpers import ROOT, add_path, parser, repositories, stop
+
 PATTERN = "refs/heads/*:refs/x/*"
 TRACKING = "+refs/heads/*:refs/remotes/origin/*"
 BRANCHES = "+refs/heads/*:refs/x/*"
@@ -20,32 +21,27 @@ BRANCHES = "+refs/heads/*:refs/x/*"
 
 def expect(row, seen, wanted):
     if seen != wanted:
-        sys.exit(f"tests/refspec_map/git_rows.py: {row}: {seen!r}, and not {wanted!r}")
+        stop(f"{row}: {seen!r}, and not {wanted!r}")
 
 
 class Tried:
     """New repositories below a folder, and the program."""
 
     def __init__(self, folder, program):
-        self.folder, self.count = folder, 0
-        self.env = {**os.environ, **PEOPLE, "GIT_CONFIG_GLOBAL": os.devnull, "GIT_CONFIG_NOSYSTEM": "1",
-                    "GIT_TERMINAL_PROMPT": "0", "LC_ALL": "C"}
+        self.folder, self.count = Path(folder), 0
+        self.env = repositories.variables(folder)
         if program:
-            os.symlink(program, os.path.join(folder, "refspec_map"))
-        self.env["PATH"] = folder + os.pathsep + os.environ["PATH"]
+            (self.folder / "refspec_map").symlink_to(program)
 
     def run(self, words, folder=None, given=b""):
-        return subprocess.run(words, cwd=folder or self.folder, env=self.env, input=given, capture_output=True, check=False)
+        return repositories.run(folder or self.folder, words, self.env, input=given)
 
     def git(self, folder, *words):
-        made = self.run(["git", *words], folder)
-        if made.returncode:
-            sys.exit(f"tests/refspec_map/git_rows.py: git {words}: {made.stderr!r}")
-        return made.stdout.decode().strip()
+        return repositories.git(folder, self.env, *words).decode().strip()
 
     def repository(self, *words, commit=False):
         self.count += 1
-        path = os.path.join(self.folder, str(self.count))
+        path = str(self.folder / str(self.count))
         self.git(self.folder, "init", "-q", "-b", "main", *words, path)
         if commit:
             self.git(path, "commit", "-q", "--allow-empty", "-m", "one")
@@ -97,11 +93,8 @@ class Tried:
     def fetched(self, local, *words):
         """The branches in FETCH_HEAD after a fetch, the refs that it writes or deletes, and what it says."""
         written, said = self.changed(local, "fetch", *words)
-        path = os.path.join(local, ".git", "FETCH_HEAD")
-        heads = ""
-        if os.path.exists(path):
-            with open(path, encoding="utf-8") as file:
-                heads = file.read()
+        path = Path(local) / ".git" / "FETCH_HEAD"
+        heads = path.read_text(encoding="utf-8") if path.exists() else ""
         return re.findall(r"\t(?:branch '(.*)' of )?[^\t]*\n", heads), written, said
 
     def answer(self, command, *lines):
@@ -149,11 +142,9 @@ def try_fetches(tried):
     commit = tried.git(remote, "rev-parse", "HEAD")
     # A bundle names its refs in lines of text, whatever these are.
     tried.git(remote, "bundle", "create", "-q", "good.bundle", "main")
-    with open(os.path.join(remote, "good.bundle"), "rb") as file:
-        bundle = file.read().replace(b" refs/heads/main\n", b" refs/heads/../../../y\n", 1)
-    with open(os.path.join(remote, "bad.bundle"), "wb") as file:
-        file.write(bundle)
-    refs, _, said = tried.written(os.path.join(remote, "bad.bundle"), PATTERN)
+    good, bad = (Path(remote) / f"{name}.bundle" for name in ("good", "bad"))
+    bad.write_bytes(good.read_bytes().replace(b" refs/heads/main\n", b" refs/heads/../../../y\n", 1))
+    refs, _, said = tried.written(str(bad), PATTERN)
     expect("a funny ref", (refs, "gnoring funny ref" in said), ([], True))
     expect("a funny ref", tried.answer("lhs", "spec " + PATTERN, f"ref {commit} refs/heads/../../../y"),
            ["map\t0\t0\trefs/heads/../../../y\trefs/x/../../../y"])
@@ -182,15 +173,14 @@ def try_fetches(tried):
 
 def try_looks_back(tried):
     remote = tried.repository(commit=True)
-    local = os.path.join(tried.folder, "clone")
+    local = str(tried.folder / "clone")
     tried.git(tried.folder, "clone", "-q", remote, local)
     expect("refs/remotes/origin/HEAD", "refs/remotes/origin/HEAD" in tried.refs(local), True)
     id_of_main = tried.git(remote, "rev-parse", "main")
     expect("refs/remotes/origin/HEAD", tried.answer("rhs", "spec +refs/heads/*:refs/remotes/origin/*",
            f"ref {id_of_main} refs/remotes/origin/HEAD"), ["map\t0\t0\trefs/heads/HEAD\trefs/remotes/origin/HEAD"])
     # The pipes, as docs/GIT.md has them.
-    with open(os.path.join(ROOT, "docs", "GIT.md"), encoding="utf-8") as file:
-        pipes = re.findall(r"^```sh\n(.*?)^```$", file.read(), re.M | re.S)
+    pipes = re.findall(r"^```sh\n(.*?)^```$", (ROOT / "docs" / "GIT.md").read_text(encoding="utf-8"), re.M | re.S)
     tried.git(remote, "tag", "-a", "-m", "note", "v1")
     mapping = b"map\t0\t%d\trefs/heads/main\trefs/remotes/origin/main\n"
     expect("pipes", [tried.run(["bash", "-c", pipe], local).stdout for pipe in pipes], [mapping % 1, mapping % 0])
@@ -482,7 +472,7 @@ def try_warnings(tried):
     expect("push ^main", tried.changed(local, "push", other, "refs/heads/*:refs/heads/*", "^main", at=other)[0],
            ["refs/heads/main"])
     tried.git(tried.folder, "clone", "-q", "--mirror", remote, "mirror")
-    expect("a mirror", tried.git(os.path.join(tried.folder, "mirror"), "config", "remote.origin.mirror"), "true")
+    expect("a mirror", tried.git(tried.folder / "mirror", "config", "remote.origin.mirror"), "true")
 
 
 NO_TAGS = [("remote.origin.tagOpt", "--no-tags")]
@@ -556,9 +546,9 @@ def try_settings(tried):
     # A remote in a file, without and with a URL in the configuration.
     for settings, written in (([("remote.x.prune", "true")], ["refs/old"]), ([("remote.x.url", remote)], [])):
         local = tried.repository()
-        os.makedirs(os.path.join(local, ".git", "remotes"))
-        with open(os.path.join(local, ".git", "remotes", "x"), "w", encoding="utf-8") as file:
-            file.write(f"URL: {remote}\nPull: refs/heads/main:refs/old\n")
+        folder = Path(local) / ".git" / "remotes"
+        folder.mkdir()
+        (folder / "x").write_text(f"URL: {remote}\nPull: refs/heads/main:refs/old\n", encoding="utf-8")
         for name, value in settings:
             tried.git(local, "config", name, value)
         expect(f"a remote in a file, and {settings}", tried.changed(local, "fetch", "--no-tags", "x")[0], written)
@@ -569,7 +559,7 @@ def try_left_to_git(tried):
     remote, pattern = two_branches(tried), "refs/heads/*:refs/x/*"
     tried.git(remote, "tag", "main", "refs/heads/main")
     tried.git(tried.folder, "clone", "-q", "--depth", "1", "file://" + remote, "shallow")
-    shallow = os.path.join(tried.folder, "shallow")
+    shallow = str(tried.folder / "shallow")
     for words, written in (([], []), (["--update-shallow"], ["refs/x/main"])):
         seen, said = tried.changed(tried.beside(shallow), "fetch", "--no-tags", *words, "origin", pattern)
         expect(f"a shallow remote {words}", (seen, "shallow roots" in said), (written, not words))
@@ -680,7 +670,7 @@ def try_settings_of_remotes(tried):
         made = tried.run(["git", "branch", "--track", "new", name], local)
         expect(f"an upstream by {ours} {theirs}", b"ambiguous" in made.stderr, True)
     tried.git(tried.folder, "init", "-q", "--bare", "added")
-    added = os.path.join(tried.folder, "added")
+    added = tried.folder / "added"
     tried.git(added, "remote", "add", "--mirror=fetch", "origin", remote)
     made = tried.run(["git", "config", "remote.origin.mirror"], added)
     expect("a mirror that is added", (tried.git(added, "config", "remote.origin.fetch"), made.returncode), ("+refs/*:refs/*", 1))
@@ -692,12 +682,12 @@ GIT_ALONE = (try_values, try_tags, try_refusals, try_pruning, try_look_ups, try_
 
 
 def main():
-    if len(sys.argv) > 2:
-        sys.exit(__doc__)
+    arguments = parser(__doc__)
+    add_path(arguments, "program", nargs="?")
+    program = arguments.parse_args().program
     if not shutil.which("git"):
         print("git-rows: left out, as there is no git on the PATH")
         return
-    program = os.path.abspath(sys.argv[1]) if sys.argv[1:] else None
     for part in (WITH_PROGRAM if program else ()) + GIT_ALONE:
         with tempfile.TemporaryDirectory() as folder:
             part(Tried(folder, program))
@@ -705,4 +695,5 @@ def main():
     print("git-rows: the other rows of docs/GIT.md, as Git does them" + left_out)
 
 
-main()
+if __name__ == "__main__":
+    main()

@@ -4,12 +4,11 @@
 Each run ends in its whole answer, or in the line `out of memory` with status 3. The runs of an
 input end with the first that asks for no more growths than were granted.
 """
-import os
 import sys
+from pathlib import Path
 
-sys.dont_write_bytecode = True
-sys.path.insert(0, os.path.dirname(os.path.dirname(os.path.abspath(__file__))))
-from helpers import runs
+sys.path.insert(0, str(Path(__file__).resolve().parents[1]))
+from helpers import paths, programs, stop
 
 LONG = b"a" * 300
 ID = b"1" * 40
@@ -93,8 +92,8 @@ CASES = [
 def fail(case, call, later, what):
     words, text, *_ = CASES[case]
     kind = "and all later ones" if later else "alone"
-    sys.exit(f"tests/refspec_map/memory.py: case {case}, {words} of {len(text)} bytes {text[:20]!r}..,"
-             f" call {call} {kind} refused: {what}")
+    stop(f"case {case}, {words} of {len(text)} bytes {text[:20]!r}..,"
+         f" call {call} {kind} refused: {what}")
 
 
 def check(program, library, case, later):
@@ -102,7 +101,7 @@ def check(program, library, case, later):
     words, text, answer, status, _ = CASES[case]
     call, early = 1, 0
     while True:
-        made, refused = runs.run_refusing(library, [program, *words.split()], call, later, input=text)
+        made, refused = programs.run_refusing(library, [program, *words.split()], call, later, input=text)
         if (made.stdout, made.returncode) == (b"out of memory\n", 3) and refused:
             early += 1
         elif (made.stdout, made.returncode) != (answer, status):
@@ -113,11 +112,9 @@ def check(program, library, case, later):
 
 
 def main():
-    if len(sys.argv) != 2:
-        sys.exit(__doc__)
-    program = os.path.abspath(sys.argv[1])
+    program = paths(__doc__, "program")
     told = []
-    with runs.library("refuse") as library:
+    with programs.library("refuse") as library:
         for case, (words, *_, least) in enumerate(CASES):
             for later in (False, True):
                 refused, early = check(program, library, case, later)
@@ -127,4 +124,5 @@ def main():
     print("memory: each growth refused alone, and with all later ones: " + ", ".join(told))
 
 
-main()
+if __name__ == "__main__":
+    main()

@@ -4,10 +4,13 @@
 Each run has a stack of 64 kB, 64 MB of memory, some three times what the largest one needs, and 4 seconds of
 processor time, some ten times what the longest one takes.
 """
-import os
 import resource
 import subprocess
 import sys
+from pathlib import Path
+
+sys.path.insert(0, str(Path(__file__).resolve().parents[1]))
+from helpers import paths, stop
 
 LIMIT = 1_048_576
 STACK = 64 * 1024
@@ -89,17 +92,16 @@ def bounds():
 
 
 def main():
-    if len(sys.argv) != 2:
-        sys.exit(__doc__)
-    program = os.path.abspath(sys.argv[1])
+    program = paths(__doc__, "program")
     for what, words, text, answer, status in CASES:
         made = subprocess.run([program, *words.split()], input=text, stdout=subprocess.PIPE,
                               env={}, preexec_fn=bounds, check=False)
         if (made.stdout, made.returncode) != (answer, status):
-            sys.exit(f"tests/refspec_map/stack.py: {words}, {what}: status {made.returncode},"
-                     f" {len(made.stdout)} bytes {made.stdout[:60]!r}")
+            stop(f"{words}, {what}: status {made.returncode},"
+                 f" {len(made.stdout)} bytes {made.stdout[:60]!r}")
     print(f"stack: {len(CASES)} inputs of up to {LIMIT} bytes, answered with a stack of {STACK} bytes, in {ROOM >> 20} MB and"
           f" less than {SECONDS} seconds each")
 
 
-main()
+if __name__ == "__main__":
+    main()

@@ -6,10 +6,10 @@ import os
 import subprocess
 import sys
 import tempfile
+from pathlib import Path
 
-sys.dont_write_bytecode = True
-sys.path.insert(0, os.path.dirname(os.path.dirname(os.path.abspath(__file__))))
-from helpers import runs
+sys.path.insert(0, str(Path(__file__).resolve().parents[1]))
+from helpers import paths, programs, stop
 
 USAGE = b"usage: refspec_map canon fetch | canon push | lhs | rhs | plan\n"
 # Arguments that name no command.
@@ -55,7 +55,7 @@ OUTPUTS = [
 
 
 def fail(words, what, made):
-    sys.exit(f"tests/refspec_map/words.py: words {words}, {what}: status {made.returncode}, output {(made.stdout or b'')[:60]!r}")
+    stop(f"words {words}, {what}: status {made.returncode}, output {(made.stdout or b'')[:60]!r}")
 
 
 def check_others(program):
@@ -84,21 +84,20 @@ def check_inputs(program):
 
 def check_outputs(program):
     for words, text, status in OUTPUTS:
-        for kind in runs.OUTPUTS:
-            made = runs.run_to(kind, 1, [program, *words], text)
+        for kind in programs.OUTPUTS:
+            made = programs.run_to(kind, 1, [program, *words], text)
             if made.returncode != status:
                 fail(words, f"{len(text)} bytes of input, the output is {kind}", made)
 
 
 def main():
-    if len(sys.argv) != 2:
-        sys.exit(__doc__)
-    program = os.path.abspath(sys.argv[1])
+    program = paths(__doc__, "program")
     check_others(program)
     check_inputs(program)
     check_outputs(program)
     print(f"words: {len(OTHERS)} calls that name no command, {len(INPUTS)} inputs,"
-          f" {len(runs.OUTPUTS) * len(OUTPUTS)} outputs that fail")
+          f" {len(programs.OUTPUTS) * len(OUTPUTS)} outputs that fail")
 
 
-main()
+if __name__ == "__main__":
+    main()

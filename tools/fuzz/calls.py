@@ -22,13 +22,13 @@ import tempfile
 sys.dont_write_bytecode = True
 HERE = os.path.dirname(os.path.abspath(__file__))
 TOP = os.path.join(HERE, os.pardir, os.pardir)
-sys.path[:0] = [os.path.join(TOP, "tools", "oracle"), os.path.join(TOP, "tests"), os.path.join(TOP, "tests", "refspec")]
+sys.path[:0] = [os.path.join(TOP, "tools", "oracle"), os.path.join(TOP, "tests")]
 import groups
 import original
 import specs
 from helpers import scripted
+from helpers.schema import Objects
 from processes import Failed, Program
-from schema import Objects
 
 SHARE = 250
 SECONDS = 3600

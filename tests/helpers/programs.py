@@ -1,10 +1,12 @@
-"""Runs of a program in which something fails, for the scripts of tests/."""
+"""Runs of a program: with outputs that fail, with calls of the C library that fail, and on a terminal."""
 import contextlib
 import os
+import pty
 import subprocess
 import tempfile
+from pathlib import Path
 
-HERE = os.path.dirname(os.path.abspath(__file__))
+HERE = Path(__file__).resolve().parent
 OUTPUTS = ("full", "closed", "unread")
 
 
@@ -25,12 +27,42 @@ def run_to(kind, number, words, text, other=None):
     return made
 
 
+def on_terminal(words, text=None, **options):
+    """What a run writes to a terminal: all of it, or with a text for its input only its messages."""
+    ours, theirs = pty.openpty()
+    if text is None:
+        streams = {"stdin": theirs, "stdout": theirs}
+    else:
+        streams = {"stdin": subprocess.PIPE, "stdout": subprocess.DEVNULL}
+    with subprocess.Popen(words, stderr=theirs, **streams, **options) as process:
+        os.close(theirs)
+        if text is not None:
+            with contextlib.suppress(BrokenPipeError), process.stdin:
+                process.stdin.write(text)
+        told = read_terminal(ours)
+    return told
+
+
+def read_terminal(descriptor):
+    """What was written to a terminal until nobody had it any more. Its newlines are those of a file."""
+    told = b""
+    while True:
+        try:
+            part = os.read(descriptor, 65536)
+        except OSError:
+            part = b""
+        if not part:
+            os.close(descriptor)
+            return told.replace(b"\r\n", b"\n")
+        told += part
+
+
 @contextlib.contextmanager
 def library(name, *options):
     """The library of NAME.c beside this file, to be loaded before a program."""
     with tempfile.TemporaryDirectory() as folder:
-        built, source = os.path.join(folder, name + ".so"), os.path.join(HERE, name + ".c")
-        subprocess.run(["gcc", "-O1", "-shared", "-fPIC", "-o", built, source, *options], check=True)
+        built = Path(folder) / f"{name}.so"
+        subprocess.run(["gcc", "-O1", "-shared", "-fPIC", "-o", built, HERE / f"{name}.c", *options], check=True)
         yield built
 
 
