@@ -139,7 +139,7 @@ install-lib: lib
 	@for file in gix_refspec-config gix_refspec-config-version; do \
 	    $(FILLED) bindings/c/$$file.cmake.in >$(CMAKE_FOLDER)/$$file.cmake || exit; \
 	done
-	@install -m 644 docs/C.md bindings/c/*.c $(LICENCES) $(TO)/share/doc/gix_refspec
+	@install -m 644 docs/C.md bindings/c/examples/*.c $(LICENCES) $(TO)/share/doc/gix_refspec
 
 uninstall-lib:
 	@rm -f $(addprefix $(TO)/,include/gix_refspec.h $(LIBDIR)/libgix_refspec.a $(LIBDIR)/pkgconfig/gix_refspec.pc) \

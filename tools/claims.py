@@ -8,8 +8,8 @@ edits are `none`, the laws and the order of the rows are the page's own.
 
 Without --write the page has to have these rows already. Each function, clause and test in it has to exist. Each text that an
 edit of code or of a definition replaces has to be in its file once, and the facts that a changed definition names have to exist.
-Each block of docs/CALLING.md that begins with the path of a file has to be in that file, in one piece or in pieces between lines
-of `...`.
+Each block of docs/CALLING.md and docs/C.md that begins with the path of a file has to be in that file, in one piece or in pieces
+between lines of `...`.
 """
 import argparse
 import collections
@@ -22,10 +22,10 @@ import kit  # beside this script
 
 ROOT = Path(kit.ROOT)
 TABLE = ROOT / "docs" / "CLAIMS-TABLE.md"
-QUOTING = ROOT / "docs" / "CALLING.md"
+QUOTING = [ROOT / "docs" / name for name in ("CALLING.md", "C.md")]
 COLUMNS = ["Claim", "Function", "Clause", "Wrong bodies", "Test"]
 SPAN = re.compile(r"`([^`]+)`")
-QUOTE = re.compile(r"^```\w*\n(?://|--) (crates/\S+)\n(.*?)^```$", re.M | re.S)
+QUOTE = re.compile(r"^```\w*\n(?://|--|#) ((?:crates|bindings)/\S+)\n(.*?)^```$", re.M | re.S)
 LINE = re.compile(r"(claim|function|clause|test): (.*)")
 
 
@@ -200,7 +200,8 @@ def faults(folders, page):
         yield from misplaced(path)
     for path in changes:
         yield from unknown_facts(path)
-    yield from wrong_quotes(QUOTING)
+    for quoting in QUOTING:
+        yield from wrong_quotes(quoting)
 
 
 def main():

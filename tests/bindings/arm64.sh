@@ -33,9 +33,9 @@ build calls -Wl,--wrap=malloc,--wrap=realloc tests/bindings/bindings.c "$folder/
 "$made/calls"
 python3 tests/bindings/prototypes.py --replay "$made/calls" | sed 's/^bindings/arm64/'
 for sample in linter planner; do
-    build $sample-static bindings/c/$sample.c "$folder/lib/libgix_refspec.a" -static
-    build $sample-shared bindings/c/$sample.c -L"$folder/lib" -lgix_refspec
-    gcc -O1 -I"$folder/include" -o "$made/$sample" bindings/c/$sample.c out/lib/libgix_refspec.a
+    build $sample-static bindings/c/examples/$sample.c "$folder/lib/libgix_refspec.a" -static
+    build $sample-shared bindings/c/examples/$sample.c -L"$folder/lib" -lgix_refspec
+    gcc -O1 -I"$folder/include" -o "$made/$sample" bindings/c/examples/$sample.c out/lib/libgix_refspec.a
 done
 GIX_REFSPEC_LIBRARY=$PWD/out/lib/libgix_refspec.so PYTHONPATH=bindings/python python3 -B tests/bindings/examples.py \
     "$made"/linter{,-static,-shared} -- "$made"/planner{,-static,-shared} | sed 's/^bindings/arm64/'

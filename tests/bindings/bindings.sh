@@ -72,7 +72,7 @@ fi
 
 # The samples, from an empty folder over what was installed alone, in each version of C.
 mkdir "$made/sample"
-cp bindings/c/linter.c bindings/c/planner.c "$made/sample"
+cp bindings/c/examples/linter.c bindings/c/examples/planner.c "$made/sample"
 for sample in linter planner; do
     for standard in c99 c11 c17 c2x gnu11; do
         (cd "$made/sample" && gcc -std=$standard -pedantic -Wall -Wextra -Werror -o $sample $sample.c \
@@ -80,7 +80,7 @@ for sample in linter planner; do
     done
     # A planner doesn't free what it has at its end.
     gcc -O1 -g -fsanitize=address,undefined -fno-sanitize-recover -I"$include" -o "$made/sample/checked-$sample" \
-        "bindings/c/$sample.c" "$made/to/lib/libgix_refspec.a" 2>/dev/null || cp "$made/sample/$sample" "$made/sample/checked-$sample"
+        "bindings/c/examples/$sample.c" "$made/to/lib/libgix_refspec.a" 2>/dev/null || cp "$made/sample/$sample" "$made/sample/checked-$sample"
 done
 export ASAN_OPTIONS=detect_leaks=0
 readelf -d "$made/sample/linter" | grep -qF "Shared library: [$(pkg-config --variable=soname gix_refspec)]" \

@@ -132,7 +132,7 @@ if ! command -v cmake >/dev/null; then
     exit 0
 fi
 mkdir "$made/cmake"
-cp bindings/c/linter.c "$made/cmake"
+cp bindings/c/examples/linter.c "$made/cmake"
 cat >"$made/cmake/CMakeLists.txt" <<'END'
 cmake_minimum_required(VERSION 3.10)
 project(linter C)

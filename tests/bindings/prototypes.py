@@ -2,17 +2,18 @@
 Replays canon.sample, lhs.sample and rhs.sample over a program of the calls: prototypes.py --replay PROGRAM
 """
 import ctypes
-import os
 import re
 import subprocess
 import sys
+from pathlib import Path
 
-HERE = os.path.dirname(os.path.dirname(os.path.abspath(__file__)))
-SOURCES = os.path.join(HERE, "..", "crates", "gix_refspec_c", "src")
-LIBRARY = os.path.join(HERE, "..", "crates", "gix_refspec_text", "src")
-RUST = os.path.join(HERE, "..", "bindings", "rust")
-MANUAL = os.path.join(HERE, "..", "docs", "C.md")
-PYTHON = os.path.join(HERE, "..", "bindings", "python", "gix_refspec", "__init__.py")
+sys.path.insert(0, str(Path(__file__).resolve().parents[1]))
+from helpers import PYTHON, ROOT, add_path, parser, samples
+
+SOURCES, LIBRARY = (ROOT / "crates" / crate / "src" for crate in ("gix_refspec_c", "gix_refspec_text"))
+RUST = ROOT / "bindings" / "rust"
+MANUAL = ROOT / "docs" / "C.md"
+MODULE = PYTHON / "gix_refspec" / "__init__.py"
 # What each type of the exported functions is in C. A slice is a pointer and a length, and an allocator is nothing.
 IN_C = {
     "Global": [],
@@ -65,8 +66,6 @@ RUST_IN_C = {
     "*mut StaleRef": "gix_refspec_stale_ref *",
     "*mut Effect": "gix_refspec_effect *",
 }
-# The programs that stand in docs/C.md.
-PROGRAMS = [("c", "planner.c"), ("rust", "refspec", "examples", "planner.rs"), ("python", "examples", "planner.py")]
 # The sentences of outcomes that the library has none for.
 OF_CALLS = {
     "OK": "The call has its answer.",
@@ -89,9 +88,8 @@ IN_C_NAMED = {
 }
 
 
-def read(*path):
-    with open(os.path.join(*path), encoding="utf-8") as file:
-        return file.read()
+def read(path):
+    return path.read_text(encoding="utf-8")
 
 
 def screaming(name):
@@ -102,8 +100,8 @@ def screaming(name):
 def exported():
     """The exported functions and the types of their parameters."""
     found = {}
-    for name in sorted(os.listdir(SOURCES)):
-        text = re.sub(r"'(a|static) |<'[a-z_]+(, '[a-z_]+)*>", "", read(SOURCES, name))
+    for path in sorted(SOURCES.glob("*.rt")):
+        text = re.sub(r"'(a|static) |<'[a-z_]+(, '[a-z_]+)*>", "", read(path))
         for function, parameters in re.findall(r'extern "C" fn (\w+)\s*\(([^)]*)\) -> u32', text):
             found[function] = [one.split(":")[1].strip() for one in parameters.split(",") if one.strip()]
     return found
@@ -121,7 +119,7 @@ def declared(header):
 def declared_in_rust():
     """Those of the crate gix-refspec-sys, in C's types."""
     found = {}
-    crate = read(RUST, "gix-refspec-sys", "src", "lib.rs")
+    crate = read(RUST / "gix-refspec-sys" / "src" / "lib.rs")
     for function, parameters in re.findall(r"pub fn (\w+)\(([^)]*)\) -> u32;", crate):
         words = [one.split(":") for one in parameters.split(",") if one.strip()]
         found[function] = [(name.strip(), RUST_IN_C[kind.strip()]) for name, kind in words]
@@ -142,14 +140,14 @@ def numbers_of(header):
 def numbers():
     """The numbers of sources and bindings, with where they are."""
     for name in ("failure.rt", "locating.rt", "planning.rt"):
-        for one, number in re.findall(r"^ +(\w+::\w+(?:\([\w:]+\))?) => (\d+),$", read(SOURCES, name), re.M):
+        for one, number in re.findall(r"^ +(\w+::\w+(?:\([\w:]+\))?) => (\d+),$", read(SOURCES / name), re.M):
             plain = one.partition("::")[2].partition("(")[0]
             yield name, IN_C_NAMED.get(one, screaming(plain)), int(number)
-        for one, number in re.findall(r"const (\w+): u32 = (\d+);", read(SOURCES, name)):
+        for one, number in re.findall(r"const (\w+): u32 = (\d+);", read(SOURCES / name)):
             yield name, one, int(number)
-    for one, number in re.findall(r"pub const (\w+): u32 = (\d+);", read(RUST, "gix-refspec-sys", "src", "lib.rs")):
+    for one, number in re.findall(r"pub const (\w+): u32 = (\d+);", read(RUST / "gix-refspec-sys" / "src" / "lib.rs")):
         yield "gix-refspec-sys", one, int(number)
-    for one, number in re.findall(r"^(?:    |_)([A-Z_]+) = (\d+)$", read(PYTHON), re.M):
+    for one, number in re.findall(r"^(?:    |_)([A-Z_]+) = (\d+)$", read(MODULE), re.M):
         yield "the module in Python", one, int(number)
 
 
@@ -158,7 +156,7 @@ def sentences(in_header):
     arm = re.compile(r'Error::(\w+)(?: \{ \.\. \})? =>\s*\{?\s*"((?:[^"\\]|\\.)*)"')
     said = {}
     for file, front in (("parsing.rt", ""), ("name.rt", "NAME_")):
-        text = read(LIBRARY, file)
+        text = read(LIBRARY / file)
         said.update({front + screaming(name): text for name, text in arm.findall(text, text.index("fn explanation"))})
     said.update(OF_CALLS)
     return {number: said[name].replace("\\\\", "\\") for name, number in in_header.items()}
@@ -185,42 +183,42 @@ def found(pattern, text):
 
 def versions(folder, header):
     """The version of the library in each place that tells it."""
-    shared = os.path.join(folder, "lib", "libgix_refspec.so")
-    config = read(folder, "lib", "pkgconfig", "gix_refspec.pc")
-    python, manual = read(PYTHON), read(MANUAL)
+    shared = folder / "lib" / "libgix_refspec.so"
+    config = read(folder / "lib" / "pkgconfig" / "gix_refspec.pc")
+    python, manual = read(MODULE), read(MANUAL)
     parts = re.findall(r"^#define GIX_REFSPEC_VERSION_(?:MAJOR|MINOR|PATCH) (\d+)$", header, re.M)
     told = {
         "gix_refspec.h": found(r'^#define GIX_REFSPEC_VERSION "(.*)"$', header),
         "its numbers": ".".join(parts),
         "gix_refspec.pc": found(r"^Version: (.*)$", config),
-        "the name of the file": os.path.realpath(shared).partition(".so.")[2],
+        "the name of the file": shared.resolve().name.partition(".so.")[2],
         "docs/C.md": found(r"`libgix_refspec\.so\.(\d+\.\d+\.\d+)`", manual),
         "the module in Python": found(r'^__version__ = "(.*)"$', python),
-        "pyproject.toml": found(r'^version = "(.*)"$', read(os.path.dirname(PYTHON), "..", "pyproject.toml")),
-        "the library": told_by(ctypes.CDLL(shared).gix_refspec_version)[0],
+        "pyproject.toml": found(r'^version = "(.*)"$', read(PYTHON / "pyproject.toml")),
+        "the library": told_by(ctypes.CDLL(str(shared)).gix_refspec_version)[0],
     }
     for crate in ("gix-refspec-sys", "refspec"):
-        told[f"the crate {crate}"] = found(r'^version = "(.*)"$', read(RUST, crate, "Cargo.toml"))
-    told["what refspec depends on"] = found(r'^gix-refspec-sys = .*version = "(.*)"', read(RUST, "refspec", "Cargo.toml"))
+        told[f"the crate {crate}"] = found(r'^version = "(.*)"$', read(RUST / crate / "Cargo.toml"))
+    told["what refspec depends on"] = found(r'^gix-refspec-sys = .*version = "(.*)"', read(RUST / "refspec" / "Cargo.toml"))
     # Before 1.0 every new minor version may break callers, afterwards every new major version.
     compatible = ".".join(parts[:2] if parts[0] == "0" else parts[:1])
     dynamic = subprocess.run(["readelf", "-d", shared], stdout=subprocess.PIPE, check=True, text=True).stdout
     sonames = {
         "readelf": found(r"\(SONAME\).*\[(.*)\]", dynamic),
         "gix_refspec.pc": found(r"^soname=(.*)$", config),
-        "the link": os.readlink(shared),
+        "the link": str(shared.readlink()),
         "docs/C.md": found(r"`(libgix_refspec\.so[^`]*)`, which is its soname", manual),
         "the module in Python": found(r'"(libgix_refspec\.so[^"]*)"', python),
-        "its README.md": found(r"`(libgix_refspec\.so[^`]*)`", read(os.path.dirname(PYTHON), "..", "README.md")),
+        "its README.md": found(r"`(libgix_refspec\.so[^`]*)`", read(PYTHON / "README.md")),
     }
     return told, sonames, f"libgix_refspec.so.{compatible}"
 
 
 def compare(folder):
-    header = read(folder, "include", "gix_refspec.h")
+    header = read(folder / "include" / "gix_refspec.h")
     functions = {name: [c for one in types for c in IN_C[one]] for name, types in exported().items()}
     prototypes = declared(header)
-    defined, wanted = globals_of(os.path.join(folder, "lib", "libgix_refspec.a"))
+    defined, wanted = globals_of(folder / "lib" / "libgix_refspec.a")
     if {name: [kind for _, kind in parameters] for name, parameters in prototypes.items()} != functions:
         sys.exit(f"bindings: the header has {prototypes}, not {functions}")
     if declared_in_rust() != prototypes:
@@ -250,7 +248,7 @@ def fields(text):
 
 
 def compare_manual(header, prototypes, in_header):
-    """docs/C.md has the prototypes, structs and numbers of the header, and the programs."""
+    """docs/C.md has the prototypes, structs and numbers of the header. tools/claims.py compares the programs that it quotes."""
     manual = read(MANUAL)
     if declared(manual) != prototypes:
         sys.exit(f"bindings: docs/C.md has the prototypes {declared(manual)}, not {prototypes}")
@@ -259,16 +257,13 @@ def compare_manual(header, prototypes, in_header):
     told = numbers_of(manual)
     if told != in_header:
         sys.exit(f"bindings: docs/C.md has other numbers: {sorted(set(told.items()) ^ set(in_header.items()))}")
-    for path in PROGRAMS:
-        if read(HERE, "..", "bindings", *path) not in manual:
-            sys.exit(f"bindings: docs/C.md has another {path[-1]} than bindings/")
 
 
 def compare_sentences(folder):
-    header = read(folder, "include", "gix_refspec.h")
+    header = read(folder / "include" / "gix_refspec.h")
     outcomes = re.search(r"enum \{\s*GIX_REFSPEC_OK = 0,.*?\}", header, re.S)[0]
     wanted = sentences(numbers_of(outcomes))
-    library = ctypes.CDLL(os.path.join(folder, "lib", "libgix_refspec.so"))
+    library = ctypes.CDLL(str(folder / "lib" / "libgix_refspec.so"))
     for outcome, sentence in wanted.items():
         told = told_by(library.gix_refspec_explanation, ctypes.c_uint32(outcome))
         if told != (sentence, 0):
@@ -277,7 +272,7 @@ def compare_sentences(folder):
 
 
 def compare_versions(folder):
-    told, sonames, soname = versions(folder, read(folder, "include", "gix_refspec.h"))
+    told, sonames, soname = versions(folder, read(folder / "include" / "gix_refspec.h"))
     if len(set(told.values())) != 1:
         sys.exit(f"bindings: the version is told as {told}")
     if set(sonames.values()) != {soname}:
@@ -286,62 +281,55 @@ def compare_versions(folder):
 
 
 def replay(program):
-    count = 0
-    cases = {"fetch": [], "push": []}
-    with open(os.path.join(HERE, "samples", "canon.sample"), "rb") as file:
-        for line in file:
-            if not line.startswith(b"#"):
-                operation, text, answer = line.rstrip(b"\n").split(b"\t")[:3]
-                plain = [re.sub(rb"\\x([0-9a-f]{2})", lambda at: bytes([int(at[1], 16)]), one) for one in (text, answer)]
-                cases[operation.decode()].append(plain)
-    for operation, pairs in cases.items():
-        given = b"".join(text + b"\n" for text, _ in pairs)
+    cases = list(samples.texts())
+    for operation in ("fetch", "push"):
+        alike = [case for case in cases if case.operation == operation]
+        given = b"".join(case.given + b"\n" for case in alike)
         made = subprocess.run([program, "canon", operation], input=given, stdout=subprocess.PIPE, check=False)
         answers = made.stdout.split(b"\n")
-        for (text, answer), told in zip(pairs, answers):
-            if told != answer:
-                sys.exit(f"bindings: {operation} {text!r} is answered {told!r}, not {answer!r}")
-        if len(answers) != len(pairs) + 1:
-            sys.exit(f"bindings: {len(answers) - 1} answers to {len(pairs)} texts")
-        count += len(pairs)
-    print(f"bindings: {count} stored texts, answered as stored")
+        for case, told in zip(alike, answers):
+            if told != case.answer:
+                sys.exit(f"bindings: {operation} {case.given!r} is answered {told!r}, not {case.answer!r}")
+        if len(answers) != len(alike) + 1:
+            sys.exit(f"bindings: {len(answers) - 1} answers to {len(alike)} texts")
+    print(f"bindings: {len(cases)} stored texts, answered as stored")
     for command in ("lhs", "rhs"):
         replay_groups(program, command)
-
-
-def groups_of(name):
-    groups = []
-    with open(os.path.join(HERE, "samples", name), "rb") as file:
-        for line in file.read().split(b"\n"):
-            if line == b"":
-                groups.append(([], []))
-            elif not line.startswith(b"#") and line[:2] in (b"< ", b"> "):
-                groups[-1][line[:2] == b"> "].append(
-                    re.sub(rb"\\x([0-9a-f]{2})", lambda at: bytes([int(at[1], 16)]), line[2:]) + b"\n")
-    return [tuple(map(b"".join, group)) for group in groups if group[0]]
 
 
 def replay_groups(program, command):
     """Groups with a line that is refused are left out, and those that look back for an id."""
     count = left_out = 0
-    for given, answer in groups_of(f"{command}.sample"):
-        if answer.startswith(b"line "):
+    for group in samples.groups(f"{command}.sample"):
+        if not group.given:
+            continue
+        if group.answer.startswith(b"line "):
             left_out += 1
             continue
-        made = subprocess.run([program, command], input=given, stdout=subprocess.PIPE, check=False).stdout
+        made = subprocess.run([program, command], input=group.given, stdout=subprocess.PIPE, check=False).stdout
         if made == b"outcome 21\n" and command == "rhs":
             left_out += 1
-        elif made != answer:
-            sys.exit(f"bindings: {command} of {given!r} is answered {made!r}, not {answer!r}")
+        elif made != group.answer:
+            sys.exit(f"bindings: {command} of {group.given!r} is answered {made!r}, not {group.answer!r}")
         else:
             count += 1
     print(f"bindings: {count} stored groups for {command}, answered as stored; left out are {left_out} that are refused,"
           " or ask back for an id")
 
 
-if sys.argv[1] == "--replay":
-    replay(sys.argv[2])
-else:
-    compare(sys.argv[1])
-    compare_versions(sys.argv[1])
-    compare_sentences(sys.argv[1])
+def main():
+    arguments = parser(__doc__)
+    add_path(arguments, "folder", nargs="?")
+    add_path(arguments, "--replay")
+    options = arguments.parse_args()
+    if options.replay:
+        replay(options.replay)
+    elif options.folder:
+        for comparison in (compare, compare_versions, compare_sentences):
+            comparison(options.folder)
+    else:
+        arguments.error("a folder, or --replay and a program")
+
+
+if __name__ == "__main__":
+    main()

@@ -157,7 +157,7 @@ planner_in_c() {
     local folder=$1
     shift
     mkdir "$folder"
-    cp bindings/c/planner.c "$folder"
+    cp bindings/c/examples/planner.c "$folder"
     (cd "$folder" && bare env "$@" sh -c 'gcc -Wall -Wextra -Werror -o planner planner.c $(pkg-config --cflags --libs gix_refspec)')
 }
 if ! has gcc || ! has pkg-config; then
@@ -175,7 +175,7 @@ if ! has cmake || ! has gcc; then
     say "left out cmake, as there is none"
 else
     mkdir "$made/cmake"
-    cp bindings/c/planner.c "$made/cmake"
+    cp bindings/c/examples/planner.c "$made/cmake"
     cat >"$made/cmake/CMakeLists.txt" <<'END'
 cmake_minimum_required(VERSION 3.10)
 project(planner C)

@@ -112,8 +112,8 @@ else
     mkdir -p "$made/musl/lib"
     cp -L $loader "$made/musl/lib"
     folder=$made/musl/home/refspec-$version-x86_64-linux
-    musl-gcc -O1 -I"$folder/include" -o "$made/musl/bin/planner" bindings/c/planner.c -L"$folder/lib" -lgix_refspec
-    musl-gcc -O1 -I"$folder/include" -static -o "$made/musl/bin/planner-static" bindings/c/planner.c "$folder/lib/libgix_refspec.a"
+    musl-gcc -O1 -I"$folder/include" -o "$made/musl/bin/planner" bindings/c/examples/planner.c -L"$folder/lib" -lgix_refspec
+    musl-gcc -O1 -I"$folder/include" -static -o "$made/musl/bin/planner-static" bindings/c/examples/planner.c "$folder/lib/libgix_refspec.a"
     for planner in planner planner-static; do
         wants $'force\trefs/heads/main\trefs/x/main' musl "printf '1\trefs/heads/main\n' \
             | LD_LIBRARY_PATH=/home/${folder##*/}/lib $planner '+refs/heads/*:refs/x/*'"
