@@ -24,11 +24,13 @@ def build(crate, processor):
 
 
 def main():
-    crate = kit.crates().get(sys.argv[1]) if len(sys.argv) > 2 else None
-    if not crate:
-        sys.exit(__doc__)
-    for processor in sys.argv[2:]:
-        build(crate, processor)
+    crates, arguments = kit.crates(), kit.parser(__doc__)
+    arguments.add_argument("crate", choices=list(crates), metavar="CRATE")
+    arguments.add_argument("processors", nargs="+", choices=["x86_64", "aarch64"], metavar="PROCESSOR")
+    options = arguments.parse_args()
+    for processor in options.processors:
+        build(crates[options.crate], processor)
 
 
-main()
+if __name__ == "__main__":
+    main()

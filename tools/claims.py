@@ -11,7 +11,6 @@ edit of code or of a definition replaces has to be in its file once, and the fac
 Each block of docs/CALLING.md and docs/C.md that begins with the path of a file has to be in that file, in one piece or in pieces
 between lines of `...`.
 """
-import argparse
 import collections
 import re
 import sys
@@ -20,9 +19,8 @@ from pathlib import Path
 sys.dont_write_bytecode = True
 import kit  # beside this script
 
-ROOT = Path(kit.ROOT)
-TABLE = ROOT / "docs" / "CLAIMS-TABLE.md"
-QUOTING = [ROOT / "docs" / name for name in ("CALLING.md", "C.md")]
+TABLE = kit.ROOT / "docs" / "CLAIMS-TABLE.md"
+QUOTING = [kit.ROOT / "docs" / name for name in ("CALLING.md", "C.md")]
 COLUMNS = ["Claim", "Function", "Clause", "Wrong bodies", "Test"]
 SPAN = re.compile(r"`([^`]+)`")
 QUOTE = re.compile(r"^```\w*\n(?://|--|#) ((?:crates|bindings)/\S+)\n(.*?)^```$", re.M | re.S)
@@ -39,7 +37,7 @@ def read(path):
 
 def named(path):
     """The path of a file as messages have it."""
-    return path.relative_to(ROOT)
+    return path.relative_to(kit.ROOT)
 
 
 class Claim:
@@ -152,7 +150,7 @@ def wrong_quotes(page):
     if not found:
         yield f"{named(page)}: there is no quote"
     for path, lines in found:
-        text = read(ROOT / path)
+        text = kit.read(path)
         for piece in re.split(r"^\.\.\.\n", lines, flags=re.M):
             if piece.strip("\n") not in text:
                 yield f"{named(page)}: not in {path}: {piece.strip().splitlines()[0]}"
@@ -179,7 +177,7 @@ class Code:
     def has_test(self, name):
         if name.startswith("tests::"):
             return name.removeprefix("tests::") in self.modules
-        return (ROOT / name).exists() if "/" in name else name in self.tests
+        return (kit.ROOT / name).exists() if "/" in name else name in self.tests
 
 
 def unknown_names(page, code):
@@ -205,9 +203,9 @@ def faults(folders, page):
 
 
 def main():
-    parser = argparse.ArgumentParser(description=__doc__, formatter_class=argparse.RawDescriptionHelpFormatter)
-    parser.add_argument("--write", action="store_true", help="write the rows of the table anew")
-    options = parser.parse_args()
+    arguments = kit.parser(__doc__)
+    arguments.add_argument("--write", action="store_true", help="write the rows of the table anew")
+    options = arguments.parse_args()
     folders = [Path(crate.folder) for crate in kit.crates().values()]
     try:
         page = read(TABLE)

@@ -3,12 +3,15 @@
 
 Writes completions/_refspec and completions/refspec.fish, or with --check says which of them isn't what it would write.
 """
-import os
 import re
 import subprocess
 import sys
+from pathlib import Path
 
-FOLDER = os.path.join(os.path.dirname(os.path.abspath(__file__)), os.pardir, "completions")
+sys.dont_write_bytecode = True
+import kit  # beside this script
+
+FOLDER = kit.ROOT / "completions"
 COMMAND = re.compile(r"^  ([a-z][a-z-]*) {2,}(.*)$")
 OPTION = re.compile(r"^ {2,6}(?:(-\w)(?:, )?)?(--[a-z][a-z-]*)?(?: <(\w+)>)? {2,}(.*)$")
 REFS = "git for-each-ref --format='%(refname)' refs/remotes 2>/dev/null"
@@ -83,22 +86,20 @@ def fish(own, commands):
 
 
 def main():
-    words = [word for word in sys.argv[1:] if word != "--check"]
-    if len(words) != 1:
-        sys.exit(__doc__)
-    made = pages(os.path.abspath(words[0]))
-    status = 0
+    arguments = kit.parser(__doc__)
+    arguments.add_argument("program", metavar="PROGRAM", type=lambda path: Path(path).absolute())
+    arguments.add_argument("--check", action="store_true")
+    options = arguments.parse_args()
+    made, status = pages(options.program), 0
     for name, write in (("_refspec", zsh), ("refspec.fish", fish)):
-        path, text = os.path.join(FOLDER, name), write(*made)
-        if "--check" not in sys.argv:
-            with open(path, "w", encoding="utf-8") as file:
-                file.write(text)
-        else:
-            with open(path, encoding="utf-8") as file:
-                if file.read() != text:
-                    status = f"completions/{name} isn't what the pages of help say: run tools/completions.py PROGRAM"
-                    print(status, file=sys.stderr)
-    return 1 if status else 0
+        path, text = FOLDER / name, write(*made)
+        if not options.check:
+            path.write_text(text, encoding="utf-8")
+        elif path.read_text(encoding="utf-8") != text:
+            print(f"completions/{name} isn't what the pages of help say: run tools/completions.py PROGRAM", file=sys.stderr)
+            status = 1
+    return status
 
 
-sys.exit(main())
+if __name__ == "__main__":
+    sys.exit(main())

@@ -13,7 +13,6 @@ another one, was looked at by reading.
 Changes are tried on a copy of the crate, over the libraries that `make test` left proved; with --after, those that a run of it,
 with the log LOG, proves meanwhile. Many are tried at once, if no fact rests on what another one changes.
 """
-import argparse
 import os
 import re
 import shutil
@@ -224,7 +223,7 @@ def try_all(crate, paths):
 
 
 def main():
-    parser = argparse.ArgumentParser(description=__doc__, formatter_class=argparse.RawDescriptionHelpFormatter)
+    parser = kit.parser(__doc__)
     parser.add_argument("--after", metavar="LOG")
     parser.add_argument("crate", nargs="?")
     parser.add_argument("names", nargs="*")
@@ -250,4 +249,5 @@ def main():
     sys.exit(noticed != tried)
 
 
-main()
+if __name__ == "__main__":
+    main()

@@ -12,7 +12,6 @@ has a round of its own, in which each error of the checker counts as one of `at:
 Without CRATE all are tried. NAME is what the names of edits begin with. The libraries below a crate are those that `make test`
 left proved; with --after, those that a run of it, with the log LOG, proves meanwhile.
 """
-import argparse
 import concurrent.futures
 import os
 import re
@@ -119,7 +118,7 @@ def try_all(crate, edits):
 
 
 def main():
-    parser = argparse.ArgumentParser(description=__doc__, formatter_class=argparse.RawDescriptionHelpFormatter)
+    parser = kit.parser(__doc__)
     parser.add_argument("--after", metavar="LOG")
     parser.add_argument("crate", nargs="?")
     parser.add_argument("names", nargs="*")
@@ -148,4 +147,5 @@ def main():
     sys.exit(refused != tried)
 
 
-main()
+if __name__ == "__main__":
+    main()

@@ -1,12 +1,14 @@
-"""The crates of crates.txt, calls of the checker over the libraries that `make test` left proved, its errors, and files of edits,
-for the tools beside this file."""
+"""The files of the repository, the crates of crates.txt, calls of the checker over the libraries that `make test` left proved, its
+errors, and files of edits, for the tools beside this file."""
+import argparse
 import functools
 import os
 import re
 import subprocess
 import time
+from pathlib import Path
 
-ROOT = os.path.normpath(os.path.join(os.path.dirname(os.path.abspath(__file__)), os.pardir))
+ROOT = Path(__file__).resolve().parents[1]
 
 ERROR = re.compile(r"^(?:\./)?(\S+?):(\d+):\d+: error: (?:`([^`]*)`: )?(.*(?:\n  .*)?)$", re.M)
 # What an error says, without what it quotes: a name is gone, or a text can't be read; the checker met a limit of its own.
@@ -18,6 +20,24 @@ RESTS = re.compile(r"declarations? that depends? on `[^`]*`, which was (?:not ad
 
 class Failure(Exception):
     pass
+
+
+def parser(text):
+    """A parser of arguments, whose page of help is the docstring of a tool."""
+    return argparse.ArgumentParser(description=text, formatter_class=argparse.RawDescriptionHelpFormatter)
+
+
+def read(path):
+    """The text of a file, by its path from the root."""
+    return (ROOT / path).read_text(encoding="utf-8", errors="replace")
+
+
+def files(folder=".", without=("out",)):
+    """The paths from the root of the files below a folder, in order, but for those in folders of these names."""
+    for place, folders, names in os.walk(ROOT / folder):
+        folders[:] = sorted(name for name in folders if name not in without)
+        for name in sorted(names):
+            yield str(Path(place, name).relative_to(ROOT))
 
 
 class Error:
@@ -87,11 +107,10 @@ class Crate:
 def crates():
     """The crates by their names, each behind those that it uses."""
     found = {}
-    with open(f"{ROOT}/crates.txt", encoding="utf-8") as lines:
-        for line in lines:
-            row = re.match(r"(\w+)( staticlib)?: *(.*)", line)
-            if row:
-                found[row[1]] = Crate(row[1], row[2], row[3].split(), found)
+    for line in read("crates.txt").splitlines():
+        row = re.match(r"(\w+)( staticlib)?: *(.*)", line)
+        if row:
+            found[row[1]] = Crate(row[1], row[2], row[3].split(), found)
     return found
 
 

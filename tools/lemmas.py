@@ -8,11 +8,12 @@ numbered in the order in which they are bound, and each word of them comes from 
 which return data, are not compared. A line of a definition or proof has at most 120 columns, unless it is a single literal or
 one imported name.
 """
-import os
 import re
 import sys
 
-ROOT = os.path.join(os.path.dirname(os.path.abspath(__file__)), os.pardir)
+sys.dont_write_bytecode = True
+import kit  # beside this script
+
 WORD = re.compile(r"[^\s(){}\[\],;.→×λ]+")
 SIGNATURE = re.compile(r"^(?:opaque |abbrev )?(?:pub )?([^\s:(){}]+) : (.*)$")
 WHOLE = re.compile(r"(Rattle\.[^\s(){}\[\],;→×λ]+)\.([^\s(){}\[\],;.→×λ]+)")
@@ -21,14 +22,6 @@ LEMMAS = re.compile(r"crates/[^/]+/proofs/(lemmas/.*|.*Lemmas)\.antt$")
 WIDTH = 120
 UNBROKEN = re.compile(r'^\s*("([^"\\]|\\.)*".{,16}|(pub )?use [^ ]+( as [^ ]+)?|Rattle\.[^ ]+)$')
 DATA = re.compile(r"(^|→ )(Bool|Ordering|ℕ|List ℕ|List \(List ℕ\)|Option \(List ℕ\)|Type 0|Mapping|Reading)$")
-
-
-def files_below(folder, endings):
-    for place, folders, names in os.walk(os.path.join(ROOT, folder)):
-        folders[:] = sorted(name for name in folders if name not in ("out", "edits"))
-        for name in sorted(names):
-            if name.endswith(endings):
-                yield os.path.relpath(os.path.join(place, name), ROOT)
 
 
 def blocks(text):
@@ -128,52 +121,74 @@ def normal(statement, known):
     return WORD.sub(lambda word: numbers.get(word[0], str(known.get(word[0], word[0]))), statement)
 
 
+def module_of(path):
+    return "Rattle." + path.removeprefix("crates/").removesuffix(".antt").replace("/", ".")
+
+
+class Proofs:
+    """The definitions, proofs and sources of all crates, and the lemmas among them."""
+
+    def __init__(self):
+        paths = (path for path in kit.files("crates", without=("out", "edits")) if path.endswith((".antt", ".rt")))
+        self.texts = {path: kit.read(path) for path in paths}
+        self.lemmas = {path: definitions(text) for path, text in self.texts.items() if LEMMAS.match(path)}
+        self.modules = {module_of(path): path for path in self.lemmas}
+        self.uses = {module_of(path): imports(text) for path, text in self.texts.items() if path.endswith(".antt")}
+        self.origins = {path: {local: origin(*name, self.uses) for local, name in imports(text).items()}
+                        for path, text in self.texts.items()}
+
+    def words(self, path):
+        """Each block of a file but `use` lines: its name, and the lemmas that its words may be."""
+        known = {local: (self.modules.get(module), name) for local, (module, name) in self.origins[path].items()}
+        known.update((name, (path, name)) for name in self.lemmas.get(path, ({},))[0])
+        for block in blocks(self.texts[path]):
+            if not USE.match(block[0]):
+                text = "\n".join(block)
+                whole = (origin(*path_of, self.uses) for path_of in WHOLE.findall(text))
+                paths = [(self.modules.get(module), name) for module, name in whole]
+                yield head_of(block), [*map(known.get, WORD.findall(text)), *paths]
+
+    def cited(self):
+        """Where each lemma is cited."""
+        found = {(path, name): set() for path, (names, _) in self.lemmas.items() for name in names}
+        for path in self.texts:
+            for head, words in self.words(path):
+                for lemma in words:
+                    if lemma in found and lemma != (path, head):
+                        found[lemma].add((path, head))
+        return found
+
+    def uncited(self):
+        cited = self.cited()
+        # What only uncited lemmas cite isn't cited.
+        live = {lemma for lemma, places in cited.items() if any(place not in cited for place in places)}
+        more = live
+        while more:
+            more = {lemma for lemma, places in cited.items() if lemma not in live and places & live}
+            live |= more
+        return [f"{path}: nothing cites {name}" for path, name in cited if (path, name) not in live]
+
+    def equal(self):
+        same = {}
+        for path, (found, equations) in self.lemmas.items():
+            for name, statement in found.items():
+                if name in equations and not DATA.search(statement):
+                    same.setdefault(normal(statement, self.origins[path]), []).append(f"{path}: {name}")
+        return ["equal statements: " + ", ".join(places) for places in same.values() if len(places) > 1]
+
+    def wide(self):
+        return [f"{path}: a line of {len(line)} columns: {line.strip()[:40]}.."
+                for path, text in self.texts.items() if path.endswith(".antt")
+                for line in text.split("\n") if len(line) > WIDTH and not UNBROKEN.match(line)]
+
+
 def main():
-    texts = {}
-    for path in files_below("crates", (".antt", ".rt")):
-        with open(os.path.join(ROOT, path), encoding="utf-8") as file:
-            texts[path] = file.read()
-    lemmas = {path: definitions(text) for path, text in texts.items() if LEMMAS.match(path)}
-    uses = {"Rattle." + path[len("crates/"):-len(".antt")].replace("/", "."): imports(text) for path, text in texts.items() if path.endswith(".antt")}
-    modules = {"Rattle." + path[len("crates/"):-len(".antt")].replace("/", "."): path for path in lemmas}
-    origins = {path: {local: origin(*name, uses) for local, name in imports(text).items()} for path, text in texts.items()}
-
-    cited = {(path, name): set() for path, (found, _) in lemmas.items() for name in found}
-    for path, text in texts.items():
-        known = {local: (modules.get(module), name) for local, (module, name) in origins[path].items()}
-        known.update((name, (path, name)) for name in lemmas.get(path, ({},))[0])
-        for block in blocks(text):
-            head = head_of(block)
-            if USE.match(block[0]):
-                continue
-            whole = (origin(*path_of, uses) for path_of in WHOLE.findall("\n".join(block)))
-            for lemma in [known.get(word) for word in WORD.findall("\n".join(block))] + [(modules.get(module), name) for module, name in whole]:
-                if lemma in cited and lemma != (path, head):
-                    cited[lemma].add((path, head))
-
-    # what only uncited lemmas cite isn't cited
-    live = {lemma for lemma, places in cited.items() if any(place not in cited for place in places)}
-    more = live
-    while more:
-        more = {lemma for lemma, places in cited.items() if lemma not in live and places & live}
-        live |= more
-    faults = [f"{path}: nothing cites {name}" for path, name in cited if (path, name) not in live]
-
-    same = {}
-    for path, (found, equations) in lemmas.items():
-        for name, statement in found.items():
-            if name in equations and not DATA.search(statement):
-                same.setdefault(normal(statement, origins[path]), []).append(f"{path}: {name}")
-    faults += ["equal statements: " + ", ".join(places) for places in same.values() if len(places) > 1]
-
-    for path, text in texts.items():
-        if path.endswith(".antt"):
-            wide = [line for line in text.split("\n") if len(line) > WIDTH and not UNBROKEN.match(line)]
-            faults += [f"{path}: a line of {len(line)} columns: {line.strip()[:40]}.." for line in wide]
-
-    for fault in faults:
-        print(fault)
+    kit.parser(__doc__).parse_args()
+    proofs = Proofs()
+    faults = [*proofs.uncited(), *proofs.equal(), *proofs.wide()]
+    print(*faults, sep="\n", end="\n" if faults else "")
     return 1 if faults else 0
 
 
-sys.exit(main())
+if __name__ == "__main__":
+    sys.exit(main())

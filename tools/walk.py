@@ -4,11 +4,12 @@
 The walk names each function of the library that is entered, by its file, and those that aren't. Each one has to exist, and
 what the entered ones call, as far as it is the library's, has to be named. So the walk stays whole, and as short as it says.
 """
-import os
 import re
 import sys
 
-ROOT = os.path.join(os.path.dirname(os.path.abspath(__file__)), os.pardir)
+sys.dont_write_bytecode = True
+import kit  # beside this script
+
 PAGE = "docs/MAINTAINING.md"
 LIBRARY = ("gix_refspec_text", "gix_refspec_match", "gix_refspec", "gix_refspec_plan", "gix_refspec_lint", "gix_refspec_why", "gix_refspec_remote")
 FUNCTIONS, FILES = 32, 10
@@ -19,11 +20,6 @@ DEFINED = re.compile(r"\s*(?:pub(?:\([a-z]+\))? )?fn (\w+)")
 CALLED = re.compile(r"\b(\w+)\(")
 # Methods of std; other types of the library have some of these names too.
 STD = {"as_slice", "contains", "len", "new", "push"}
-
-
-def lines_of(path):
-    with open(os.path.join(ROOT, path), encoding="utf-8") as file:
-        return file.read().split("\n")
 
 
 def walk(lines):
@@ -64,18 +60,13 @@ def bodies(lines):
 
 def sources():
     for crate in LIBRARY:
-        for folder, folders, names in os.walk(os.path.join(ROOT, "crates", crate, "src")):
-            folders[:] = [name for name in folders if name != "tests"]
-            for name in names:
-                if name.endswith(".rt"):
-                    yield os.path.relpath(os.path.join(folder, name), ROOT)
+        yield from (path for path in kit.files(f"crates/{crate}/src", without=("tests",)) if path.endswith(".rt"))
 
 
 def main():
-    if len(sys.argv) != 1:
-        sys.exit(__doc__)
-    entered, aside = walk(lines_of(PAGE))
-    defined = {path: bodies(lines_of(path)) for path in sources()}
+    kit.parser(__doc__).parse_args()
+    entered, aside = walk(kit.read(PAGE).split("\n"))
+    defined = {path: bodies(kit.read(path).split("\n")) for path in sources()}
     ours = {name for found in defined.values() for name in found}
     named = {name for _, names in entered for name in names}
     wrong = [f"there is no {name} in the library" for name in sorted(aside - ours)]
@@ -97,4 +88,5 @@ def main():
     print(f"walk: {functions} functions in {files} files")
 
 
-main()
+if __name__ == "__main__":
+    main()

@@ -101,4 +101,5 @@ def main():
         tables.serve(lambda kind, given: calls[kind](**given) if kind in calls else None)
 
 
-main()
+if __name__ == "__main__":
+    main()

@@ -140,4 +140,5 @@ def main():
     print("most memory: %.0f bytes for a byte of input, %s, %s" % max(rooms))
 
 
-main()
+if __name__ == "__main__":
+    main()

@@ -112,4 +112,5 @@ def main():
         print(f"conformance: Git {git.version} answers so to", ", ".join(f"{number} cases of {kind}" for kind, number in asked.items()))
 
 
-main()
+if __name__ == "__main__":
+    main()

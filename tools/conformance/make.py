@@ -76,4 +76,5 @@ def main():
     sys.exit(int(unknown > 0))
 
 
-main()
+if __name__ == "__main__":
+    main()

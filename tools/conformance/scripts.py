@@ -1,15 +1,13 @@
 """The scripts of tools/oracle as modules, whose names have hyphens."""
 import importlib.util
-import os
+from pathlib import Path
 
-ORACLE = os.path.join(os.path.dirname(os.path.abspath(__file__)), os.pardir, "oracle")
+ORACLE = Path(__file__).resolve().parents[1] / "oracle"
 
 
 def module(name):
-    """The script of this name, without its call of main."""
-    path = os.path.join(ORACLE, name + ".py")
-    with open(path, encoding="utf-8") as file:
-        text = file.read().removesuffix("\n\nmain()\n")
-    made = importlib.util.module_from_spec(importlib.util.spec_from_file_location(name.replace("-", "_"), path))
-    exec(compile(text, path, "exec"), made.__dict__)
+    """The script of this name. What it imports has to be on the path."""
+    spec = importlib.util.spec_from_file_location(name.replace("-", "_"), ORACLE / f"{name}.py")
+    made = importlib.util.module_from_spec(spec)
+    spec.loader.exec_module(made)
     return made

@@ -53,4 +53,5 @@ def main():
     print(f"blocks: {len(found) - len(unreached)} of {len(found)} reached", file=sys.stderr)
 
 
-main()
+if __name__ == "__main__":
+    main()

@@ -336,4 +336,5 @@ def main():
             print(f"calls: {count} of {kind}, seed {options.seed}: {shown}", flush=True)
 
 
-main()
+if __name__ == "__main__":
+    main()

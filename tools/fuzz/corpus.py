@@ -101,4 +101,5 @@ def main():
         unpack(folder, stored() if word == "unpack" else seeds())
 
 
-main()
+if __name__ == "__main__":
+    main()

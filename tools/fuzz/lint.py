@@ -128,4 +128,5 @@ def main():
     print(f"lint: seed {options.seed}: " + ", ".join(f"{count} {what}" for what, count in sorted(total.items())))
 
 
-main()
+if __name__ == "__main__":
+    main()

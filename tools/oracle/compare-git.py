@@ -272,4 +272,5 @@ def main():
         sys.exit(f"compare-git: {unknown} differences of unknown kinds")
 
 
-main()
+if __name__ == "__main__":
+    main()

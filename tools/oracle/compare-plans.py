@@ -321,4 +321,5 @@ def main():
         sys.exit(f"compare-plans: {unknown} differences of unknown kinds")
 
 
-main()
+if __name__ == "__main__":
+    main()

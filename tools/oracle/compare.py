@@ -282,4 +282,5 @@ def main():
         sys.exit(f"compare: {unknown} differences of unknown kinds")
 
 
-main()
+if __name__ == "__main__":
+    main()

@@ -25,4 +25,5 @@ def main():
                 print(f"\n#[test]\nfn {name}_{number}() {{", *(f"    {line}".rstrip() for line in lines), "}", sep="\n")
 
 
-main()
+if __name__ == "__main__":
+    main()

@@ -574,4 +574,5 @@ def main():
         sys.exit(keep(failure, options))
 
 
-main()
+if __name__ == "__main__":
+    main()
