@@ -1,5 +1,5 @@
 //! Calls in which growths of memory are refused. Each test makes one call between two marks, and looks at
-//! what it answered and what it left. `tests/growths.py` has the growths between the marks refused in turn;
+//! what it answered and what it left. `tests/library/growths.py` has the growths between the marks refused in turn;
 //! in any other run there is memory for all.
 
 mod alike;

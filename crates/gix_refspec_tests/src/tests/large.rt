@@ -1,4 +1,4 @@
-//! Thousands of names at once, for which `tests/large.py` gives little time and memory.
+//! Thousands of names at once, for which `tests/library/large.py` gives little time and memory.
 
 use super::mapping::{item_of, target};
 use bstr::BStr;

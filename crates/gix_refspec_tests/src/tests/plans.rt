@@ -1,4 +1,4 @@
-//! What fetches plan. Each row is what git 2.39 fetches, by `tests/git-refspec.py` and by hand.
+//! What fetches plan. Each row is what git 2.39 fetches, by `tests/refspec/git_refspec.py` and by hand.
 
 use super::mapping::{group_of, items_of, target};
 use bstr::BStr;

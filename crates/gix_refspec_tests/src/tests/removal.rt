@@ -1,5 +1,5 @@
-//! What a fetch does because of one value of a remote's configuration, besides its mappings. `tests/git-rows.py` tries
-//! such values with Git.
+//! What a fetch does because of one value of a remote's configuration, besides its mappings.
+//! `tests/refspec_map/git_rows.py` tries such values with Git.
 
 use super::plans::specs_of;
 use gix_refspec_lint::removal::{Removal, removal_of};

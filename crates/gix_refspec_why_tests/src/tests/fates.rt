@@ -1,4 +1,5 @@
-//! The fates of refs. Each row is what git 2.39.5 does with these values of `remote.<name>.fetch`: tests/git-fates.py gives them to it.
+//! The fates of refs. Each row is what git 2.39.5 does with these values of `remote.<name>.fetch`, by
+//! `tests/library/git_fates.py`.
 
 use bstr::BStr;
 use gix_refspec::match_group::Item;
