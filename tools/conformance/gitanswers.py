@@ -19,6 +19,7 @@ import gitlists
 import gitplans
 import gitremotes
 import reference
+import remotecalls
 import scripts
 import tables
 
@@ -131,7 +132,6 @@ class Texts:
         self.folder = folder
         self.version = self.run("version").stdout.decode().split()[2]
         self.remotes = gitremotes.Remotes(self.below("remotes"))
-        self.rule_of_upstreams = scripts.module("compare-remotes").Upstreams.rule
 
     def below(self, name):
         """A new folder."""
@@ -165,7 +165,7 @@ class Texts:
         found = [done[0]] if done[0] else []
         if found == answer["upstream"]:
             return SAME, "-"
-        rule = self.rule_of_upstreams(list(values), merge)
+        rule = remotecalls.empty_side_of(list(values), merge)
         return texts_cell(found), rule and RULES[rule]
 
     @staticmethod

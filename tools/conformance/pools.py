@@ -20,7 +20,7 @@ import gitknown
 import gitlists
 import groups
 import reference
-import scripts
+import remotevalues
 import specs
 import tables
 from examples import advertised, plan_case, without_needless_ids
@@ -251,16 +251,16 @@ def prefixes():
 
 
 def upstreams():
-    """Fetch values and merged refs, as tools/oracle/compare-remotes.py makes them."""
+    """Fetch values and merged refs, as tools/oracle/remotevalues.py makes them."""
     random_ = random.Random(SEED)
-    made = scripts.module("compare-remotes")
     found = [{"values": [b"refs/heads/x:", b"refs/heads/*:refs/y/*"], "merge": b"refs/heads/x"},
              {"values": [b":refs/y/x"], "merge": b"HEAD"}]
     for _ in range(3500):
-        values = made.values(random_, 3)
-        merge = made.merged(random_, values)
+        values = remotevalues.values(random_, 3)
+        merge = remotevalues.merged(random_, values)
         if random_.random() < 0.5:
-            values.insert(random_.randint(0, len(values)), b"^" + random_.choice([merge, made.pattern(random_), made.name(random_)]))
+            index, excluded = random_.randint(0, len(values)), [merge, remotevalues.pattern(random_), remotevalues.name(random_)]
+            values.insert(index, b"^" + random_.choice(excluded))
         found.append({"values": values, "merge": merge})
     return [case for case in found if case["merge"] and is_valid_list(case["values"])]
 

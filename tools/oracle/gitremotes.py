@@ -43,11 +43,11 @@ class Remotes:
             file.write(b"".join(b"%s %s\n" % (self.commit, name) for name in refs))
         return path
 
-    def upstreams(self, values, merges):
+    def upstreams(self, values, merges, others=()):
         """The upstream of a branch for each merged ref, empty without one; `None` if git refuses a value. If such a ref is
-        there, git resolves `@{upstream}` to it."""
+        there, git resolves `@{upstream}` to it. Another remote has other values."""
         branches = [b"b%d" % number for number in range(len(merges))]
-        config = remote_of(b"o", NOWHERE, values) + b"".join(
+        config = remote_of(b"o", NOWHERE, values) + (remote_of(b"p", NOWHERE, others) if others else b"") + b"".join(
             section(b"branch", branch, (b"remote", b"o"), (b"merge", merge)) for branch, merge in zip(branches, merges))
         names = [b"refs/heads/" + branch for branch in branches]
         client = self.client(config, names)
@@ -98,9 +98,9 @@ class Remotes:
         shutil.rmtree(client)
         return None if made.returncode else values.split(b"\0")[:-1]
 
-    def set(self, name, branches, is_mirror):
-        """The values of a remote after `git remote set-branches`; `None` if git refuses its name."""
-        lines = [(b"url", NOWHERE)] + [(b"mirror", b"true")] * is_mirror
+    def set(self, name, branches, is_mirror, before=(b"refs/heads/any",)):
+        """The values of a remote after `git remote set-branches`; `None` if git ends with another status than 0."""
+        lines = [(b"url", NOWHERE)] + [(b"fetch", value) for value in before] + [(b"mirror", b"true")] * is_mirror
         client = self.client(section(b"remote", name, *lines))
         made = self.store.git(client, "remote", "set-branches", "--", name, *branches)
         values = self.store.git(client, "config", "-z", "--get-all", b"remote.%s.fetch" % name).stdout
