@@ -34,6 +34,7 @@ of_refspec() {
     done
     try ../tools/fuzz/calls.py "$refspec"
     try refspec/schema.py
+    try library/replay_remotes.py "$refspec"
     try library/git_remotes.py
     try library/git_fates.py
 }

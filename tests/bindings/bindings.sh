@@ -136,6 +136,7 @@ else
 fi
 PYTHONPATH=bindings/python python3 -B tests/bindings/examples.py "$made/sample/linter" "$made/sample/checked-linter" -- "${planners[@]}"
 tests/bindings/libraries.sh "$made/to"
+python3 -B tests/library/replay_remotes.py
 PYTHONPATH=bindings/python timeout 100 python3 -B -m unittest discover -s bindings/python/tests \
     || { echo "bindings: the tests of the module in Python end with status $?"; exit 1; }
 

@@ -1,10 +1,14 @@
 #!/usr/bin/env python3
-"""Gives the rows of the tests of gix_refspec_remote to the installed Git: tests/library/git_remotes.py
+"""Gives the rows of the tests of gix_refspec_remote and the cases of remotes.sample to the installed Git:
+tests/library/git_remotes.py
 
 The tests hold the library against these rows, and Git has to do what they say: which upstream a branch has, what a prefetch
-fetches, what `git remote rename` makes of a value, and which values `git remote add` writes. Without a git on the PATH nothing is
-compared.
+fetches, what `git remote rename` makes of a value, and which values `git remote add` writes. With a case of the sample it has to do
+what is stored, and that is what follows from the stored answer, unless Git is known to differ so. Without a git on the PATH nothing
+is compared.
 """
+import concurrent.futures
+import os
 import re
 import shutil
 import sys
@@ -12,13 +16,15 @@ import tempfile
 from pathlib import Path
 
 sys.path.insert(0, str(Path(__file__).resolve().parents[1]))
-from helpers import ORACLE, ROOT, parser, stop, use
+from helpers import ORACLE, ROOT, parser, samples, stop, use
 
 use(ORACLE)
+import gitfetch
 import gitremotes
+import remotecalls
 
 ROWS = ROOT / "crates" / "gix_refspec_remote_tests" / "src" / "tests"
-
+SAMPLE = samples.FOLDER / "remotes.sample"
 TABLE = re.compile(r"^ *const (\w+): &\[\((.*?)\)\] = &\[(.*?)^ *\];", re.M | re.S)
 CELL = re.compile(r'"((?:[^"\\]|\\.)*)"|(None)')
 REFS = [b"HEAD", b"refs/heads/main", b"refs/heads/x", b"refs/tags/t", b"refs/remotes/o/x"]
@@ -74,6 +80,26 @@ def try_remotes(remotes):
             expect(row, values, [made])
         elif values:
             expect(row, remotes.accepts(values[0]), False)
+    expect("set-branches", remotes.set(b"o", [b"x"], False), [b"+refs/heads/x:refs/remotes/o/x"])
+    expect("set-branches without a value", remotes.set(b"o", [b"x"], False, before=()), None)
+
+
+def try_stored(stored, call):
+    """Tries a case of the sample."""
+    trial = remotecalls.Trial(stored.given, stored.answer, call.wanted(stored.given, stored.answer), call.done(stored.given))
+    kind = call.kind_of(trial).text if call.differs(trial) and call.kind_of(trial) else ""
+    if trial.done != stored.done or call.differs(trial) != bool(kind) or kind != stored.kinds:
+        stop(f"line {stored.number} of remotes.sample: git {trial.done}, and not {stored.done}, where by the"
+                 f" answer it should {trial.wanted}; {kind}")
+
+
+def try_sample(remotes):
+    """Tries the cases of the sample; gives how many there are of each call."""
+    calls = {call.word: call(remotes) for call in remotecalls.CALLS}
+    cases = gitfetch.stored_lists(SAMPLE)
+    with concurrent.futures.ThreadPoolExecutor() as pool:
+        list(pool.map(lambda one: try_stored(one, calls[one.command]), cases))
+    return ", ".join(f"{sum(one.command == word for one in cases)} of {word}" for word in calls)
 
 
 def main():
@@ -85,8 +111,10 @@ def main():
         remotes = gitremotes.Remotes(folder)
         for part in (try_upstreams, try_prefetches, try_renames, try_remotes):
             part(remotes)
-    counts = [len(rows(name)) for name in ("upstreams", "prefetching", "renames", "remotes")]
-    print("git-remotes: git does what the rows of the tests say: {} upstreams, {} prefetches, {} renames, {} specs of remotes".format(*counts))
+        counts = try_sample(remotes)
+    tables = [len(rows(name)) for name in ("upstreams", "prefetching", "renames", "remotes")]
+    print("git-remotes: git does what the rows of the tests say: {} upstreams, {} prefetches, {} renames, {} specs of remotes".format(*tables))
+    print(f"git-remotes: and what is stored: {counts}")
 
 
 if __name__ == "__main__":

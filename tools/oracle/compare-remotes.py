@@ -35,7 +35,7 @@ STORED = 60
 SAMPLE_HEAD = """\
 # Cases of tools/oracle/remotecalls.py, separated by empty lines. Each begins with the word of its call after `= `, and the kind by
 # which Git differs. After `< ` are the lines of the case, after `> ` those of the answer, and after `! ` what {git}
-# does. tests/replay-remotes.py asks for the answers again, and tests/git-remotes.py gives the cases to Git. Made by
+# does. tests/library/replay_remotes.py asks for the answers again, and tests/library/git_remotes.py gives the cases to Git. Made by
 # tools/oracle/compare-remotes.py REFSPEC --cases {options.cases} --seed {options.seed} --record FILE
 """
 
