@@ -29,7 +29,7 @@ of_program() {
 }
 
 of_refspec() {
-    for script in refspec replay git_refspec git_plans lint completions faults interrupted; do
+    for script in refspec replay git_refspec git_plans git_advice lint completions faults interrupted; do
         try "refspec/$script.py" "$refspec"
     done
     try ../tools/fuzz/calls.py "$refspec"
