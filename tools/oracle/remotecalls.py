@@ -11,7 +11,8 @@ import subprocess
 import sys
 import tempfile
 
-import gitfates  # beside this script, as the next two
+import gitfates  # beside this script, as the next three
+import gitknown
 import gitlists
 import remotevalues
 
@@ -238,10 +239,13 @@ class Fates(Call):
         tracking, tags = b"value refs/heads/*:refs/x/*", b"value refs/tags/*:refs/x/*"
         main, asked = b"ref refs/heads/main", b"name refs/heads/main"
         self.kinds = [
-            Kind("a source that the remote lacks stops the fetch", [tracking, b"value gone", main, asked], self.stopped_by("missing")),
+            Kind("a source that the remote lacks stops the fetch", [tracking, b"value gone", main, asked], self.lacks_source),
             Kind("an object that the remote lacks stops the fetch", [tracking, b"value " + SOME_ID, main, asked], self.lacks_object),
+            Kind("a conflict by one spec stops what another one stores",
+                 [b"value refs/heads/a:refs/x", b"value refs/heads/a:refs/y", b"value refs/tags/a:refs/x", b"ref refs/heads/a",
+                  b"ref refs/tags/a", b"name refs/heads/a"], self.is_in_own_conflict),
             Kind("a conflict of other refs stops the fetch",
-                 [tracking, tags, b"ref refs/heads/a", b"ref refs/tags/a", main, asked], self.stopped_by("conflict", "tracks")),
+                 [tracking, tags, b"ref refs/heads/a", b"ref refs/tags/a", main, asked], self.is_in_conflict),
             Kind("of two refs in a directory conflict Git may write one",
                  [tracking, b"value refs/heads/b:refs/x/a/y", b"ref refs/heads/a", b"ref refs/heads/b", b"name refs/heads/a",
                   b"name refs/heads/b"], self.writes_one_of_nested)]
@@ -300,13 +304,34 @@ class Fates(Call):
         return lines
 
     def differs(self, trial):
-        """As above; but a fetch that should store nothing may fail."""
-        return trial.wanted != [line for line in trial.done if trial.wanted or not line.startswith(b"fails ")]
+        """As above; but a fetch that should store nothing may fail, unless a ref isn't said to be in conflict."""
+        done = [line for line in trial.done if trial.wanted or not line.startswith(b"fails ")]
+        return trial.wanted != done or bool(self.untold(trial))
 
     @staticmethod
-    def stopped_by(*words):
-        """Tells whether a failure keeps Git from all that was said to be fetched."""
-        return lambda trial: len(trial.done) == 1 and trial.done[0].startswith(tuple(b"fails " + word.encode() for word in words))
+    def failure(trial, word):
+        """The names in a failure with this word that keeps Git from all; None if there is none such."""
+        found = trial.done[0].split(b" ") if len(trial.done) == 1 else []
+        return found[2:] if found[:2] == [b"fails", word] else None
+
+    def untold(self, trial):
+        """The refs asked about by whose conflict Git fails, though none is said."""
+        told = {row[1] for row in rows_of(trial.said, b"fate") if row[0] == b"conflict"}
+        *sources, _ = self.failure(trial, b"conflict") or [b""]
+        return [name for name in texts_of(trial.given, b"name") if name in sources and name not in told]
+
+    def lacks_source(self, trial):
+        names = self.failure(trial, b"missing")
+        refs = texts_of(trial.given, b"ref")
+        return bool(names) and not any(form % names[0] in refs for form in gitknown.CANDIDATES)
+
+    def is_in_conflict(self, trial):
+        return self.failure(trial, b"conflict") is not None and not self.untold(trial)
+
+    def is_in_own_conflict(self, trial):
+        """Whether a ref that is said to be fetched is in conflict by another spec."""
+        fates = {fate: {row[1] for row in rows_of(trial.said, b"fate") if row[0] == fate} for fate in (b"fetched", b"conflict")}
+        return self.is_in_conflict(trial) and bool(set.intersection(*fates.values()))
 
     @staticmethod
     def lacks_object(trial):
