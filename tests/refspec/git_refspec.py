@@ -22,7 +22,7 @@ import tempfile
 from pathlib import Path
 
 sys.path.insert(0, str(Path(__file__).resolve().parents[1]))
-from helpers import ROOT, add_path, parser, programs, repositories, samples, stop
+from helpers import ROOT, add_path, parser, programs, repositories, samples, scripted, stop
 
 SCRIPT = ROOT / "bin" / "git-refspec"
 LOCALES = ("C.UTF-8", "C")
@@ -383,6 +383,14 @@ def check_terminal(program, remote):
                 stop(f"{words} on a terminal: {told!r}")
 
 
+def check_old_git(program):
+    """Where Git doesn't know an option, the last line says which Git does."""
+    with scripted.Repository(program, {**scripted.USUAL, "config": 129}) as repository:
+        made = subprocess.run([scripted.SCRIPT, "check"], env=repository.variables(), capture_output=True, check=False)
+        if made.returncode != 129 or not made.stderr.endswith(b"; install Git 2.8 or later\n") or repository.left():
+            stop(f"an old Git: {made!r}")
+
+
 def check_manual(program, remote):
     """The synopses of the manual page run, and its examples print what the page says."""
     page = (ROOT / "man" / "git-refspec.1").read_text(encoding="utf-8")
@@ -543,6 +551,7 @@ def main():
             check_soon(program, *row)
         commands = check_manual(program, remote)
         check_terminal(program, remote)
+        check_old_git(program)
         shells = check_completion(program, remote)
     written = check_plans(program)
     print(f"git-refspec: {calls} calls in {len(LOCALES)} locales; {commands} commands of the manual page; {len(PLANS)} plans as a "
