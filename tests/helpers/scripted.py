@@ -18,7 +18,7 @@ if [ -n "${STEP-}" ]; then
     fi
 fi
 """
-# Git prints the file of its answer, and ends with the status beside it, if there is one.
+# Git prints the file of its answer, and ends with the status beside it, if there is one. It says nothing of a detached HEAD.
 GIT = STEPS + r"""
 case "$1 $2" in
     "rev-parse --git-common-dir") name=folder ;;
@@ -30,7 +30,11 @@ case "$1 $2" in
     help*) name=manual ;;
 esac
 cat "$room/$name"
-[ ! -e "$room/$name.status" ] || { echo "fatal: no $name" >&2; exit "$(cat "$room/$name.status")"; }
+if [ -e "$room/$name.status" ]; then
+    status=$(cat "$room/$name.status")
+    [ "$name $status" = "head 1" ] || echo "fatal: no $name" >&2
+    exit "$status"
+fi
 """
 PROGRAM = STEPS + r"""
 exec "$REFSPEC" "$@"
