@@ -48,6 +48,15 @@ COMMANDS = [
     Case(["prefixes", "refs/*:refs/*", "refs/heads/*:refs/x/*"]),
     Case(["prefixes", "main", "*:refs/x/*"]),
     Case(["track", "--json", "--ref", "refs/x/a", "--ref", "y", "refs/heads/*:refs/x/*", "a:" + "1" * 40]),
+    Case(["upstream", "--merge", "refs/heads/a", "--merge", "refs/heads/b", "refs/heads/a*:refs/x/*", "^refs/tags/a"]),
+    Case(["upstream", "--json", "--merge", "refs/heads/a", "--merge", "refs/tags/a", "refs/heads/*:refs/x/*", "^refs/heads/a"]),
+    Case(["prefetch"], {}, b"+refs/heads/*:refs/x/*\nrefs/tags/*:refs/tags/*\nmain\n^refs/heads/a\na..b\n"),
+    Case(["prefetch", "--json"], {}, b"+refs/heads/*:refs/x/*\nrefs/tags/*:refs/tags/*\n"),
+    Case(["rename", "o", "p", "+refs/heads/*:refs/remotes/o/*", "main:refs/x", "a:refs/remotes/o/a"]),
+    Case(["rename", "--json", "o", "p"], {}, b"+refs/heads/*:refs/remotes/o/*\nmain\n"),
+    Case(["why", "--ref", "refs/heads/a", "--refs", "-", "refs/heads/*:refs/x/*", "refs/tags/*:refs/x/*", "b", "^refs/heads/b*"], {}, REFS),
+    Case(["why", "--json", "--ref", "refs/heads/a", "refs/heads/b*:refs/x/*", "^refs/heads/a"]),
+    Case(["why", "--ref", "refs/heads/aa", "--refs", "refs", "main"], {"refs": REFS}),
     Case(["plan", "--help"]),
     Case(["plan", "--no"]),
 ]
@@ -60,12 +69,15 @@ MANY = b"".join(b"%s\trefs/heads/%06d\n" % (ID, number) for number in range(20_0
 LONG = b"a" * 500_000
 # On a small stack: a long text, many texts and many refs for each command.
 LARGE = [
-    *(Case(words, {}, text) for words in (["check", "--no-warnings"], ["explain"], ["canon"], ["prefixes"])
+    *(Case(words, {}, text) for words in (["check", "--no-warnings"], ["explain"], ["canon"], ["prefixes"], ["prefetch"],
+                                          ["rename", "o", "p"], ["upstream", "--merge", "refs/heads/a"])
       for text in (LONG, b"refs/" + LONG + b"/*:refs/x/*" + LONG, b"/".join([b"a"] * 100_000), b"+a:b\n" * 20_000, b"\n" * 20_000)),
     *(Case(["check", *words], {}, b"".join(b"refs/heads/%d*:refs/x/%d*\n" % (number, number % 20) for number in range(40)))
       for words in ([], ["--json"])),
     *(Case([*words, "refs/heads/*:refs/x/*", "refs/heads/000001:refs/x/000002", "^refs/heads/00001*"], {"local": MANY}, MANY)
-      for words in (["plan"], ["plan", "--json", "--local", "local"], ["stale", "--local", "local"])),
+      for words in (["plan"], ["plan", "--json", "--local", "local"], ["stale", "--local", "local"],
+                    ["why", "--ref", "refs/heads/000001", "--refs", "-"], ["why", "--ref", "refs/heads/nosuch", "--refs", "-"])),
+    Case(["why", "--ref", "refs/heads/a", "--specs", "-"], {}, b"refs/heads/*:refs/x/*\n" * 20_000),
     Case(["track", "--ref", "refs/x/a", "--specs", "-"], {}, b"refs/heads/*:refs/x/*\n" * 20_000),
     Case(["check", "--config"], {}, b"".join(b"file:c\0remote.r%d.fetch\na:b\0" % number for number in range(5_000))),
 ]
