@@ -134,8 +134,10 @@ class Trial:
     def kinds_of_stop(self):
         """A fetch that is said to write nothing has to fail so, at one of the reasons: in a group with status 1."""
         said = self.done.said
-        if self.done.status in (0, 1) and all(self.is_partial_of_other(row) for row in self.rows(*STOPPING)):
-            return [FULL_NAME]
+        if all(self.is_partial_of_other(row) for row in self.rows(*STOPPING)):
+            stops = [one for one, pattern, note in FATAL if note is None and pattern.search(said)]
+            if self.done.status in (0, 1) or stops and self.done.refs == self.before.refs:
+                return [one for one in KINDS if one in (FULL_NAME, *stops)]
         fails = self.done.status not in (0, 1) or "error: could not fetch" in said
         if not fails or self.done.refs != self.before.refs:
             return None
@@ -165,7 +167,14 @@ class Trial:
         """Whether a plan shows that a fetch may be stopped so."""
         if one is SHALLOW_TWICE:
             return any(remote.is_shallow and self.are_twice(remote) for remote in self.remotes())
+        if one is UNADVERTISED and self.has_peeled_source():
+            return True
         return note is None or bool(self.rows(note))
+
+    def has_peeled_source(self):
+        """Whether the source of a mapping is an id that only a tag object of the remote points to."""
+        ids = {self.world.id_of(remote, object_) for remote in self.remotes() for object_ in remote.names().values()}
+        return any(re.fullmatch("[0-9a-f]{40}|[0-9a-f]{64}", row["source"]) and row["source"] not in ids for row in self.rows("mapping"))
 
     def are_twice(self, remote):
         """Whether a ref has two places or two specs of the call. FETCH_HEAD counts, and that of a followed tag."""
@@ -233,7 +242,7 @@ class Trial:
                 found[far] = SHALLOW
             elif target:
                 found[far] = self.kind_of_symbolic(far, target, spec, expected)
-            if found.get(far) not in (SHALLOW, LEFT_ALONE, DANGLING, THROUGH_TWICE):
+            if found.get(far) not in (SHALLOW, LEFT_ALONE, DANGLING, THROUGH_TWICE, TAG_AS_BRANCH):
                 expected[target or far] = id_
         for name in set(expected) | set(self.done.refs):
             if expected.get(name) != self.done.refs.get(name):
@@ -262,6 +271,8 @@ class Trial:
             return DANGLING
         if f"cannot lock ref '{far}': is at" in self.done.said:
             return THROUGH_TWICE
+        if re.search(f"non-commit object .* to branch '{re.escape(target)}'", self.done.said):
+            return TAG_AS_BRANCH
         return THROUGH_BOTH if "*" in spec else THROUGH
 
     def short_merges(self, remote):
