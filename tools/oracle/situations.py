@@ -165,8 +165,10 @@ def local_state(choose, name, values, refs):
     if f"refs/remotes/{name}/HEAD" not in kept and choose.may(0.5):
         branch = choose.one(["main", "main", "dev", "gone"])
         choose.add("here", "symref", f"refs/remotes/{name}/HEAD", f"refs/remotes/{name}/{branch}")
-    if choose.may(0.03) and kept:
-        one = choose.one(kept)
+    # A symbolic ref is a file, so no word of its name is a folder such as `..`.
+    files = [one for one in kept if not {".", ".."} & set(one.split("/"))]
+    if choose.may(0.03) and files:
+        one = choose.one(files)
         choose.lines.remove(next(line for line in choose.lines if line.startswith(f"here ref {one} ")))
         choose.add("here", "symref", one, choose.one(["refs/heads/other", "refs/x/other"]))
     kind = choose.random.random()
