@@ -224,7 +224,10 @@ class Trial:
     def kinds_by(self, remote, prunes):
         """The kinds if this is the remote."""
         names, updates, heads = remote.names(), {}, set()
+        alone = self.left_alone()
         for row in self.rows("mapping", "directory_conflict"):
+            if row["origin"] == "configured" and row["source"] in alone or self.is_unlisted_merge(row, remote):
+                continue
             source, far = row["source"], row["destination"]
             id_ = self.world.id_of(remote, names[source]) if source in names else source
             if not (self.given and row["origin"] == "configured"):
@@ -254,13 +257,31 @@ class Trial:
         if remote.is_shallow and SHALLOW not in kinds and SHALLOW_ROOTS in self.done.said:
             kinds.append(SHALLOW)
         merged = self.short_merges(remote) & {id_ for id_, _ in self.done.heads} - heads
-        kinds += [SHORT_MERGE] * bool(merged)
+        kinds += [SHORT_MERGE] * (bool(merged) or any(self.is_unlisted_merge(row, remote) for row in self.rows("mapping")))
         return kinds if self.is_status(kinds) and self.are_heads(heads | merged, kinds, updates, tags) else None
+
+    def is_no_commit(self, branch):
+        """Whether Git refuses to write another object than a commit to a branch."""
+        return re.search(f"non-commit object .* to branch '{re.escape(branch)}'", self.done.said) is not None
 
     def is_rejected_as_shallow(self, remote, far):
         """Whether the update isn't made: a tag that is rejected may be followed afterwards."""
         is_rejected = remote.is_shallow and f"rejected {far} {SHALLOW_ROOTS}" in self.done.said
         return is_rejected and self.done.refs.get(far) == self.before.refs.get(far)
+
+    def left_alone(self):
+        """The sources of a call all of whose destinations are symbolic refs that patterns leave alone: no configured spec applies to
+        them then."""
+        given = [row for row in self.rows("mapping") if row["origin"] == "given"]
+        kept = {row["source"] for row in given
+                if "*" not in row["spec"] or not self.before.refs.get(row["destination"], "").startswith("-> ")}
+        return {row["source"] for row in given} - kept
+
+    def is_unlisted_merge(self, row, remote):
+        """Whether a partial name that the branch merges wasn't found, as its ref isn't listed."""
+        name = remote.names().get(row["source"])
+        is_partial = row["origin"] == "merge" and row["spec"] != row["source"] and name is not None
+        return is_partial and self.world.id_of(remote, name) not in {id_ for id_, _ in self.done.heads}
 
     def kind_of_symbolic(self, far, target, spec, expected):
         """The kind by which a symbolic ref isn't updated itself."""
@@ -271,7 +292,7 @@ class Trial:
             return DANGLING
         if f"cannot lock ref '{far}': is at" in self.done.said:
             return THROUGH_TWICE
-        if re.search(f"non-commit object .* to branch '{re.escape(target)}'", self.done.said):
+        if self.is_no_commit(target):
             return TAG_AS_BRANCH
         return THROUGH_BOTH if "*" in spec else THROUGH
 
@@ -287,8 +308,10 @@ class Trial:
     def kinds_of_tags(self, tags, updates):
         """The kind by which a followed tag can't be written. A tag that was pruned before may be followed anew."""
         locked = [tag for tag in tags if f"cannot lock ref '{tag}'" in self.done.said]
-        return [one for one, names in ((REFUSED_TAG, self.before.refs), (TAG_BESIDE, updates))
-                if any(clash(tag, name) for tag in locked for name in names)][:1]
+        found = [one for one, names in ((REFUSED_TAG, self.before.refs), (TAG_BESIDE, updates))
+                 if any(clash(tag, name) for tag in locked for name in names)][:1]
+        targets = [self.before.refs.get(tag, "").partition("-> ")[2] for tag in tags]
+        return found or [TAG_AS_BRANCH] * any(target and self.is_no_commit(target) for target in targets)
 
     def kind_of(self, remote, name, updates, tags):
         """The kind by which a ref isn't as expected."""
