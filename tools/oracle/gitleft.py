@@ -316,6 +316,8 @@ class Trial:
     def kind_of(self, remote, name, updates, tags):
         """The kind by which a ref isn't as expected."""
         was, is_ = self.before.refs.get(name), self.done.refs.get(name)
+        if name not in updates and was and is_ is None:
+            return self.kind_of_pruning(name)
         if name not in updates:
             through = [id_ for tag, id_ in tags.items() if self.before.refs.get(tag) == f"-> {name}"]
             return FOLLOWED if is_ == tags.get(name, "") else FOLLOWED_THROUGH if is_ in through else None
