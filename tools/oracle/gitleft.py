@@ -52,6 +52,8 @@ FOLLOWED_THROUGH = kind("a followed tag is written through a symbolic ref that p
                         "o ref refs/tags/v1 refs/heads/main", "here symref refs/tags/v1 refs/heads/other")
 FOLLOWED_CONFLICT = kind("a followed tag has the destination of another ref", "o ref refs/tags/v1 refs/heads/main",
                          "o ref refs/heads/dev", words="o main:refs/x/main dev:refs/tags/v1")
+FOLLOWED_OVER = kind("a followed tag has the destination of a configured spec, and wins", "o ref refs/tags/main tag:refs/heads/main",
+                     "here config remote.o.fetch=+refs/heads/*:refs/tags/*", words="o +refs/*:refs/copy/*")
 CHECKED_OUT = kind("a branch that is checked out isn't fetched into", words="o main:main")
 HEAD_ASIDE = kind("a ref outside refs/heads/ that HEAD points to isn't updated", TRACKING, "here ref refs/x/main refs/heads/main~",
                   "here head refs/x/main")
@@ -79,14 +81,14 @@ FULL_NAME = kind("a full name is also taken for a partial one", "o ref refs/head
 BOOLEAN_FIRST = kind("a value that isn't a boolean is told before one that isn't a refspec",
                      "here config remote.o.fetch=a..b", "here config fetch.prune=maybe")
 KINDS = [FORCED, CLOBBERED, FOLDER, FOLDERS, TAG_AS_BRANCH, LEFT_ALONE, THROUGH, THROUGH_BOTH, THROUGH_TWICE, DANGLING, FOLLOWED,
-         FOLLOWED_THROUGH, REFUSED_TAG, TAG_BESIDE, FOLLOWED_CONFLICT, CHECKED_OUT, HEAD_ASIDE, NOT_OURS, UNADVERTISED,
+         FOLLOWED_THROUGH, REFUSED_TAG, TAG_BESIDE, FOLLOWED_CONFLICT, FOLLOWED_OVER, CHECKED_OUT, HEAD_ASIDE, NOT_OURS, UNADVERTISED,
          SHALLOW, SHALLOW_TWICE, SHORT_MERGE, FORMATS, DELETED_FIRST, PARTIAL, EXCLUDED, GROUP, OLD_FORM,
          FULL_NAME, BOOLEAN_FIRST]
 # Those by which Git ends with status 1, or may.
 FAILING = {FORCED, CLOBBERED, FOLDER, FOLDERS, TAG_AS_BRANCH, THROUGH_TWICE, DANGLING, REFUSED_TAG, TAG_BESIDE, HEAD_ASIDE}
 UNSURE = {DELETED_FIRST, PARTIAL, EXCLUDED}
 # Those by which tags are in FETCH_HEAD.
-FOLLOWING = {FOLLOWED, FOLLOWED_THROUGH, REFUSED_TAG, TAG_BESIDE, SHALLOW}
+FOLLOWING = {FOLLOWED, FOLLOWED_OVER, FOLLOWED_THROUGH, REFUSED_TAG, TAG_BESIDE, SHALLOW}
 # What stops a fetch though its plan can be carried out: how Git says it, and the kind of note by which a plan has to tell it.
 FATAL = [(CHECKED_OUT, re.compile(r"refusing to fetch into branch '(.*)' checked out"), None),
          (NOT_OURS, re.compile("not our ref"), "unlisted"),
@@ -96,6 +98,7 @@ FATAL = [(CHECKED_OUT, re.compile(r"refusing to fetch into branch '(.*)' checked
          (FORMATS, re.compile("mismatched algorithms|does not support this repository's object format"), None)]
 SHALLOW_ROOTS = "because shallow roots are not allowed to be updated"
 BAD_BOOLEAN = re.compile("bad (boolean|numeric) config value")
+SPECS_OF_GROUP = re.compile("fetching a group and specifying refspecs")
 # What is refused that Git takes, by the message.
 REFUSED = [(GROUP, re.compile("is a group of remotes")), (OLD_FORM, re.compile("is configured in .*(remotes|branches)"))]
 
@@ -143,7 +146,8 @@ class Trial:
             return None
         if any(re.search(STOPPING[row["kind"]], said) for row in self.rows(*STOPPING)):
             return []
-        return [BOOLEAN_FIRST] if self.rows("refused") and BAD_BOOLEAN.search(said) else None
+        firsts = [one for one, pattern in ((BOOLEAN_FIRST, BAD_BOOLEAN), (GROUP, SPECS_OF_GROUP)) if pattern.search(said)]
+        return firsts if self.rows("refused") and firsts else None
 
     def is_partial_of_other(self, row):
         """Whether a full name that is said to be missing is a partial name of a ref of the remote."""
@@ -178,7 +182,7 @@ class Trial:
 
     def are_twice(self, remote):
         """Whether a ref has two places or two specs of the call. FETCH_HEAD counts, and that of a followed tag."""
-        rows = self.rows("mapping")
+        rows = self.rows("mapping", "directory_conflict")
         places = {(row["source"], row["destination"]) for row in rows} | {(tag, tag) for tag in self.followed(remote)}
         asked = self.single(self.specs()) if self.given else []
         shown = [row for row in rows if row["origin"] == "given" and "*" not in row["spec"]]
@@ -323,7 +327,7 @@ class Trial:
             return FOLLOWED if is_ == tags.get(name, "") else FOLLOWED_THROUGH if is_ in through else None
         id_, spec = updates[name]
         if is_ not in (was, None):
-            return None
+            return FOLLOWED_OVER if self.given and is_ == tags.get(name) else None
         if was and is_ is None:
             return DELETED_FIRST if any(row["name"] == name for row in self.rows("pruned")) else self.kind_of_pruning(name)
         if name == self.world.here.head() and "can't fetch into checked-out branch" in self.done.said:
