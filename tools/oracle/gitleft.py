@@ -249,6 +249,8 @@ class Trial:
                 found[far] = SHALLOW
             elif target:
                 found[far] = self.kind_of_symbolic(far, target, spec, expected)
+                if target in updates and f"cannot lock ref '{target}': is at" in self.done.said:
+                    found[target] = THROUGH_TWICE
             if found.get(far) not in (SHALLOW, LEFT_ALONE, DANGLING, THROUGH_TWICE, TAG_AS_BRANCH):
                 expected[target or far] = id_
         for name in set(expected) | set(self.done.refs):
