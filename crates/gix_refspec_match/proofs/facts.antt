@@ -7,3 +7,4 @@ pub mod ListsFacts
 pub mod CopyFacts
 pub mod OrderFacts
 pub mod SingleFacts
+pub mod RedundantFacts

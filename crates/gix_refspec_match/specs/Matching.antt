@@ -3,4 +3,5 @@ pub mod Lists
 pub mod Mappings
 pub mod Hits
 pub mod Missing
+pub mod Redundant
 pub mod Single

@@ -19,10 +19,10 @@ ghost use Rattle.std.specs.List.{All, filter};
 ghost use Rattle.gix_refspec_match.specs.Matching.Lists.{IsMadeFrom};
 
 mod elements;
+pub mod redundant;
 
 use crate::bloom::Bloom;
 use crate::hashes::{bits_for, lower_bits, seeds, upper_bits};
-use crate::types::Mapping;
 use std::alloc::{AllocError, Global};
 use std::cmp::Ordering;
 use std::hash::FoldHasher;
@@ -252,18 +252,18 @@ fn keep_shared(keys: &mut Vec<u64>, shared: &Bloom, bits: u32)
     keys.truncate(kept);
 }
 
-// Drops the mappings that are flagged. The others stay in order.
-pub(crate) fn drop_flagged<'a, 'b>(flags: &[bool], mappings: &mut Vec<Mapping<'a, 'b>>)
-    ensures { IsMadeFrom (IsUnflagged flags.now) 0 mappings.old.items mappings.new.items }
+// Drops the elements that are flagged. The others stay in order.
+pub(crate) fn drop_flagged<T: Drop>(flags: &[bool], elements: &mut Vec<T>)
+    ensures { IsMadeFrom (IsUnflagged flags.now) 0 elements.old.items elements.new.items }
 {
     let mut kept = 0;
-    for place in 0..mappings.len() {
+    for place in 0..elements.len() {
         if !is_flagged(flags, place) {
-            mappings.swap(kept, place);
+            elements.swap(kept, place);
             kept += 1;
         }
     }
-    mappings.truncate(kept);
+    elements.truncate(kept);
 }
 
 /// Whether an index is flagged. No flags at all flag no index.

@@ -2,3 +2,4 @@
 pub mod HashKeyLemmas
 pub mod FlagLemmas
 pub mod OrderedLemmas
+pub mod RedundantLemmas

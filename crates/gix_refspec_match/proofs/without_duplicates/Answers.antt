@@ -11,7 +11,7 @@ returns c =
     let flags = rw c.as_slice.ensures.value at c.in_ok-flags.ensures.ok in
     elim c.if-not-is_empty.branch [
       | goal.then-not-is_empty w ↦ rw w.mappings-is
-          (kept_unflagged ms w.drop_flagged.new.mappings.items told.items flags
+          (kept_unflagged ms w.drop_flagged.new.elements.items told.items flags
           (rw w.as_slice-then-not-is_empty.ensures.value at w.drop_flagged.ensures))
       | goal.else-not-is_empty w ↦
           let none : told.items ≡ [] = nil_from_length told.items

@@ -1,13 +1,15 @@
 -- Elements of a list that equal an earlier one, and how they are found. Only private functions cite this.
 use Rattle.std.specs.Prelude.{◌≡◌, ◌≢◌, ◌⊎◌, ◌↔◌, ◌<◌, ◌≤◌, ◌-◌, ◌/◌, ◌%◌, ◌^◌, ℕ, Bool, List, [], length, nat_eq}
-use Rattle.std.specs.Prelude.{slice_index_or}
+use Rattle.std.specs.Prelude.{slice_index_or, Some}
 use Rattle.std.specs.Int.{bit_at}
-use Rattle.std.specs.List.{All, AllPairs, Contains}
+use Rattle.std.specs.List.{All, AllPairs, Contains, slice_get}
 use Rattle.std.specs.Ordering.{nat_cmp, ordering_then}
 use Rattle.std.specs.declared.cmp.Ordering.{Ordering}
 use Rattle.std.specs.declared.cmp.Ordering.TheVariants.{Equal}
+use Rattle.gix_refspec_text.specs.Texts.Words.{BeginsWith}
 use Rattle.gix_refspec_match.specs.declared.bloom.Bloom.{Bloom}
 use Rattle.gix_refspec_match.specs.declared.duplicates.Placed.{Placed}
+use Rattle.gix_refspec_match.specs.Matching.Redundant.{IsRedundant}
 use Rattle.gix_refspec_match.specs.Private.Bloom.{HasNumber, IsWhole}
 use Rattle.gix_refspec_match.specs.Private.Kept.{IsFlagged}
 
@@ -107,3 +109,15 @@ pub record ArePlaced {T : Type 0} (xs : List T) (ps : List (Placed T)) : Type 0 
   pub each : All (IsPlaced xs) ps
   pub every : (k : ℕ) → k < length xs → HasIndex (λ p. p.index) ps k
   pub apart : AreApart (λ p. p.index) ps
+
+-- exactly the redundant texts are flagged
+abbrev pub FlagsRedundant : List (List ℕ) → List Bool → Type 0
+FlagsRedundant texts flags = (k : ℕ) → IsFlagged flags k ↔ IsRedundant texts k
+
+-- the text begins with one of the texts that isn't redundant
+pub record BeginsWithNeeded (texts : List (List ℕ)) (text : List ℕ) : Type 0 where
+  pub index : ℕ
+  pub other : List ℕ
+  pub there : slice_get texts index ≡ Some other
+  pub needed : ¬ (IsRedundant texts index)
+  pub begins : BeginsWith other text

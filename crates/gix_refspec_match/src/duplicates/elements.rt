@@ -1,8 +1,10 @@
-//! What duplicates are found among: names, items by their names, and mappings by their sources and destinations.
+//! What duplicates are found among: names, owned ones too, items by their names, and mappings by their sources and
+//! destinations.
 
 ghost use Rattle.std.specs.Cmp.{on_total};
 ghost use Rattle.std.specs.Cmp.Lexicographic.{nat_list_cmp_total};
 ghost use Rattle.bstr.specs.BStr.{bstr_bytes};
+ghost use Rattle.bstr.specs.Owned.{bstring_bytes};
 ghost use Rattle.gix_refspec_match.specs.Private.Orders.{bytes_alike, bytes_hash, bytes_order};
 ghost use Rattle.std.specs.Prelude.{◌≡◌};
 ghost use Rattle.gix_refspec_match.specs.Views.Mapping.{mapped_of};
@@ -11,7 +13,7 @@ ghost use Rattle.gix_refspec_match.specs.Private.Kept.{pair_hash};
 use super::Element;
 use crate::hashes;
 use crate::types::{Item, Mapping, SourceRef};
-use bstr::BStr;
+use bstr::{BStr, BString};
 use std::cmp::Ordering;
 use std::hash::{FoldHasher, Hash, Hasher};
 
@@ -30,6 +32,24 @@ impl<'a> Element for BStr<'a> {
 
     fn compare(&self, other: &Self) -> Ordering {
         self.cmp(other)
+    }
+}
+
+impl Element for BString {
+    ghost order = { λ x y. bytes_order (bstring_bytes x) (bstring_bytes y) };
+
+    ghost hash = { λ seed x. bytes_hash seed (bstring_bytes x) };
+
+    ghost total = { on_total bstring_bytes nat_list_cmp_total };
+
+    ghost alike = { λ seed x y same. bytes_alike seed (bstring_bytes x) (bstring_bytes y) same };
+
+    fn hash_by(&self, seed: FoldHasher) -> u64 {
+        hashes::hash_by(seed, self.as_bytes())
+    }
+
+    fn compare(&self, other: &Self) -> Ordering {
+        self.as_bytes().cmp(other.as_bytes())
     }
 }
 

@@ -81,7 +81,7 @@ module _ {T : Type 0} {order : T → T → Ordering} (total : IsTotalOrder order
   abbrev Le : Placed T → Placed T → Type 0
   Le p q = is_lt (placed_order order q p) ≡ false
 
-  rising_indexes : (p q : Placed T) → Le p q → HaveEqualElements order q p → p.index ≤ q.index
+  pub rising_indexes : (p q : Placed T) → Le p q → HaveEqualElements order q p → p.index ≤ q.index
   rising_indexes p q le same = ge_from_not_lt q.index p.index (rw same at le)
 
   squeezed : (a m b : Placed T) → Le a m → Le m b → HaveEqualElements order a b → HaveEqualElements order m b
@@ -97,7 +97,7 @@ module _ {T : Type 0} {order : T → T → Ordering} (total : IsTotalOrder order
 
   module _ {xs : List T} {ps : List (Placed T)} (are : ArePlaced xs ps) (sorted : IsSorted (placed_order order) ps)
     where
-      not_fallen : (i j : ℕ) (d : Placed T) → i ≤ j → j < length ps → Le (get_or ps i d) (get_or ps j d)
+      pub not_fallen : (i j : ℕ) (d : Placed T) → i ≤ j → j < length ps → Le (get_or ps i d) (get_or ps j d)
       not_fallen = sorted_far (λ p q. is_lt (placed_order order p q)) (ranks_by placed_total (λ (p : Placed T). p)) ps
           sorted
 

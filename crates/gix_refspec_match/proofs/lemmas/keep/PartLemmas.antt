@@ -110,7 +110,7 @@ taken_named : (which : Candidates) (kind : SideKind) (a b : List Ref) (r s : Ref
     → IsTaken which b kind s
 taken_named which kind a b r s plain names same taken = grind (arith, plain, names, same, taken, first_named)
 
-abbrev ref_named : List ℕ → Ref
+abbrev pub ref_named : List ℕ → Ref
 ref_named n = record { name = n; target = []; object = None }
 
 same_pair : (which : Candidates) (m : Matcher) (i j : ℕ) (r : Ref) → IsSamePair (mapping_of which (hit_by m i r))

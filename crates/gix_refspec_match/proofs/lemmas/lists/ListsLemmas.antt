@@ -49,7 +49,8 @@ cut xs rest i d x is =
     let here : get_or xs i d ≡ x = cc in
     (here, take_more xs i d below ∙ ap (λ y. take i xs ++ y ∷ []) here, cc)
 
-cut_next : {X : Type 0} (all : List X) (k : ℕ) (x : X) (xs : List X) → drop k all ≡ x ∷ xs → (slice_get all k ≡ Some x)
+pub cut_next : {X : Type 0} (all : List X) (k : ℕ) (x : X) (xs : List X) → drop k all ≡ x ∷ xs
+    → (slice_get all k ≡ Some x)
     × (drop (k + 1) all ≡ xs)
 cut_next all k x xs left =
     let (here, _, next) = cut all xs k x x left in
