@@ -1,2 +1,3 @@
 -- The definitions that only private functions use, for their steps.
+pub mod Requested
 pub mod Updates

@@ -13,6 +13,7 @@ pub mod validate;
 pub use gix_refspec_match::single::MapName;
 pub use gix_refspec_match::types::{Item, Mapping, NameRef, Source, SourceRef};
 use gix_refspec_match::{match_backward, match_forward};
+pub use prefixes::RefPrefixes;
 pub use premises::has_id_destination;
 use std::alloc::{AllocError, Global};
 use types::MatchGroup;

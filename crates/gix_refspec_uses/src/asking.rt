@@ -1,8 +1,10 @@
 //! Matching only the refs that a server lists for the ref prefixes of a group.
 
-ghost use Rattle.std.specs.Prelude.{◌≡◌, map, IfOk, MatchOption};
+ghost use Rattle.std.specs.Prelude.{◌≡◌, [], map, IfOk, MatchOption};
 ghost use Rattle.bstr.specs.Owned.{bstring_bytes};
-ghost use Rattle.gix_refspec.specs.Matching.Asked.{HasNoList};
+ghost use Rattle.gix_refspec.specs.Matching.Asked.{ListsBeside, Requests};
+ghost use Rattle.gix_refspec.specs.Views.Group.{readings_of};
+ghost use Rattle.gix_refspec.specs.declared.match_group.prefixes.RefPrefixes.TheVariants as request;
 ghost use Rattle.gix_refspec.specs.Views.Issue.{mappings_of};
 ghost use Rattle.gix_refspec.specs.Laws.Items.{is_begun};
 ghost use Rattle.gix_refspec_uses.specs.Asking.{LosesNothing, items_asked};
@@ -10,8 +12,8 @@ ghost use Rattle.gix_refspec_uses.specs.Planned.{fetch_readings};
 
 use crate::gather::fetches_of;
 use bstr::BString;
-use gix_refspec::match_group::{Item, match_lhs};
-use gix_refspec::{RefSpecRef, laws};
+use gix_refspec::match_group::{Item, RefPrefixes, match_lhs};
+use gix_refspec::{MatchGroup, RefSpecRef, laws};
 use std::alloc::{AllocError, Global};
 
 /// The items listed for the ref prefixes of a group, and their mappings.
@@ -32,12 +34,12 @@ pub fn match_asked<'spec, 'item>(
     items: &[Item<'item>],
 ) -> Result<Option<Asked<'spec, 'item>>, AllocError>
     ensures { IfOk result (λ found. MatchOption found
-        (HasNoList (fetch_readings specs.entry.items))
+        (Requests (fetch_readings specs.entry.items) request.All)
         (λ asked. LosesNothing (fetch_readings specs.entry.items)
         items.now asked.items.items (mappings_of asked.outcome))) }
 {
     let group = fetches_of(alloc, specs)?;
-    let Some(entries) = group.ref_prefixes(alloc)? else {
+    let Some(entries) = prefixes_of(alloc, &group)? else {
         return Ok(None);
     };
     let asked = keep_asked(alloc, entries.as_slice(), items)?;
@@ -48,6 +50,19 @@ pub fn match_asked<'spec, 'item>(
             outcome,
         })),
         Err(_) => Err(AllocError),
+    }
+}
+
+// The ref prefixes to send for a group. `None` if all refs are to be requested.
+fn prefixes_of(alloc: Global, group: &MatchGroup<'_>) -> Result<Option<Vec<BString>>, AllocError>
+    ensures { IfOk result (λ found. MatchOption found
+        (Requests (readings_of group.now) request.All)
+        (λ list. ListsBeside [] (readings_of group.now) (map bstring_bytes list.items))) }
+{
+    match group.ref_prefixes(alloc)? {
+        RefPrefixes::Nothing => Ok(Some(Vec::new(alloc))),
+        RefPrefixes::Listed(list) => Ok(Some(list)),
+        RefPrefixes::All => Ok(None),
     }
 }
 

@@ -11,8 +11,9 @@ use Rattle.gix_refspec.proofs.Common.{AskedItems, TakesItem, HasTaken, HaveSameP
 use Rattle.gix_refspec.proofs.Common.{AreListedItems, ListedItems, PassesTaken, FilteredItems, is_begun}
 use Rattle.gix_refspec.proofs.Common.{FilteredByEntries, FilteredByList, by_cases, empty_blob, IsIdText-empty_blob}
 use Rattle.gix_refspec.proofs.Common.{blob_kind, object, AsksForNoId, HaveSameNames, MakesForward, NamesDecide}
-use Rattle.gix_refspec.proofs.Common.{NamesDecideBack, rules, matches_as}
+use Rattle.gix_refspec.proofs.Common.{ListsGroup, NamesDecideBack, rules, matches_as}
 use Rattle.gix_refspec.proofs.facts.AskedFacts.{lists_of_specs}
+use Rattle.gix_refspec_match.proofs.facts.RedundantFacts.{one_needed}
 use Rattle.gix_refspec.proofs.facts.KeptFacts.{group, remote_refs, tracking_refs}
 use Rattle.gix_refspec.proofs.facts.LawFacts.{asks}
 use Rattle.gix_refspec.proofs.{facts.LawFacts.{expansions, head_spec}, lemmas.prefixes.CoverLemmas.joined_covers}
@@ -160,8 +161,10 @@ none_lost law fewer are =
 pub asked_for : AskedItems group remote_refs branches → ((fewer : List Mapped) → AreKeptForward group branches fewer
     → HaveSamePairs (tracked 2 (codes "main") ∷ []) fewer) × ¬ (AreKeptForward group branches [])
 asked_for law =
-    let same = law _ (codes "refs/heads/" ∷ [], [], lists_of_specs.0, ([], [], lists_of_specs.1, refl, refl), refl)
-    (refl, (refl, tt)) listed_refs.3 in
+    let lists : ListsGroup group (codes "refs/heads/" ∷ []) =
+    (codes "refs/heads/" ∷ [], [], lists_of_specs.0, ([], [], lists_of_specs.1, refl, refl), refl) in
+    let same = law [] (codes "refs/heads/" ∷ [])
+    (codes "refs/heads/" ∷ [], lists, one_needed (codes "refs/heads/")) (refl, (refl, tt)) listed_refs.3 in
     ((λ fewer. same _ fewer fetches_all_but_dev), λ are. same_pairs.1 (same _ [] fetches_all_but_dev are))
 
 -- a name begins with one of the entries or with none. If all items pass, those that some spec takes do; if none does,

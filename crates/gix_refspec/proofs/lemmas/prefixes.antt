@@ -1,2 +1,4 @@
 pub mod AskedLemmas
 pub mod CoverLemmas
+pub mod RequestLemmas
+pub mod NeededLemmas

@@ -1,11 +1,12 @@
 -- Laws of matching a subset of the items, or items without their ids: what a caller may leave out. They follow from the
 -- definitions in Hits and Laws/Matching, and add no rule.
-use Rattle.std.specs.Prelude.{◌≡◌, ◌⊎◌, ◌↔◌, ℕ, Bool, IsTrue, nat_eq, List, map, Option, Some}
-use Rattle.std.specs.List.{AllByRecursion, Any, Contains, filter, list_any, starts_with}
+use Rattle.std.specs.Prelude.{◌≡◌, ◌⊎◌, ◌↔◌, ◌<◌, ℕ, Bool, IsTrue, nat_eq, List, [], ◌∷◌, length, map, Option, Some}
+use Rattle.std.specs.List.{AllByRecursion, Any, Contains, filter, list_any, slice_get, starts_with}
 use Rattle.bstr.specs.BStr.{bstr_bytes}
 use Rattle.gix_refspec_match.specs.declared.types.Item.{Item}
 use Rattle.gix_refspec_text.specs.declared.parsing.Operation.TheVariants.{Fetch}
 use Rattle.gix_refspec_text.specs.Texts.Bytes.{head}
+use Rattle.gix_refspec_text.specs.Texts.Words.{BeginsWith}
 use Rattle.gix_refspec_text.specs.Specs.Reading.{Reading}
 use Rattle.gix_refspec_text.specs.Matching.Side.{IsId}
 use Rattle.gix_refspec_text.specs.Matching.Match.{Ref, HasName, Matches, Takes}
@@ -15,7 +16,7 @@ use Rattle.gix_refspec_match.specs.Matching.Hits.{Ends, AreForwardEnds, AreBackw
 use Rattle.gix_refspec_match.specs.Matching.Hits.{AreKeptBackward}
 use Rattle.gix_refspec_text.specs.Laws.Covering.{HasCoveringSource}
 use Rattle.gix_refspec.specs.Laws.Matching.{AreFetches, MakesForward, BeginsWithOne, AreExpansions}
-use Rattle.gix_refspec.specs.Matching.Asked.{ListsGroup}
+use Rattle.gix_refspec.specs.Matching.Asked.{ListsBeside}
 
 -- the refs B are a subset of the refs A
 abbrev pub ArePart : List Ref → List Ref → Type 0
@@ -130,10 +131,22 @@ pub record AreAskedFor (list : List (List ℕ)) (A B : List Ref) : Type 0 where
   pub part : ArePart A B
   pub asked : (item : Ref) → Contains A item → BeginsWithOne list item.name → Contains B item
 
--- if the list is that of a group of fetches, the same pairs are kept over such items, also those of `HEAD`
+-- if the list is that of a group of fetches, with others or without, the same pairs are kept over such items, also
+-- those
+-- of `HEAD`
 abbrev pub AskedItems : List Reading → List Ref → List Ref → Type 0
-AskedItems g A B = (list : List (List ℕ)) → ListsGroup g list → AreFetches g → AreAskedFor list A B
+AskedItems g A B = (others list : List (List ℕ)) → ListsBeside others g list → AreFetches g → AreAskedFor list A B
     → (kept fewer : List Mapped) → AreKeptForward g A kept → AreKeptForward g B fewer → HaveSamePairs kept fewer
+
+-- a ref that some reading takes, if there is no other one. Of the list, only the entry at index k begins its name
+pub record IsNeededFor (g : List Reading) (list : List (List ℕ)) (k : ℕ) : Type 0 where
+  pub ref : Ref
+  pub taken : Any (TakesItem AreForwardEnds (Takes (ref ∷ [])) ref) g
+  pub alone : (j : ℕ) (p : List ℕ) → slice_get list j ≡ Some p → BeginsWith p ref.name ↔ (j ≡ k)
+
+-- each entry of the list is needed: without it a group of fetches would miss a ref that one of them takes
+abbrev pub NeedsEach : List (List ℕ) → List Reading → Type 0
+NeedsEach list g = AreFetches g → (k : ℕ) → k < length list → IsNeededFor g list k
 
 -- and the items whose names begin with a ref prefix of the list are such items
 abbrev pub FilteredByList : List Item → List Item → Type 0

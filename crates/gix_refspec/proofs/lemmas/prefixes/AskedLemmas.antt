@@ -1,4 +1,4 @@
--- Over the items that a server lists for the ref prefixes of a group of fetches, the same pairs are kept.
+-- The ref prefixes of all specs of a group, one after the other: each ref that a fetch takes begins with one of them.
 use Rattle.gix_refspec.proofs.Common.{Any as AnyAt, joined_next, map_split, map_long, nothing_joined, ◌≡◌, inl, inr, ℕ}
 use Rattle.gix_refspec.proofs.Common.{suc, ◌+◌, ◌<◌, List, [], ◌∷◌, ◌++◌, Option, None, Some, MatchOption, Vec, Global}
 use Rattle.gix_refspec.proofs.Common.{length, map, take, drop, get_or, sym, ap, ◌∙◌, subst, arith, BString}
@@ -6,11 +6,10 @@ use Rattle.gix_refspec.proofs.Common.{bstring_bytes, append-nil, get_or-map, len
 use Rattle.gix_refspec.proofs.Common.{RefSpecRef, reading_of, BeginsWith, IsSplit, IsPositive, Reading, SideKind}
 use Rattle.gix_refspec.proofs.Common.{pattern, full_name, object, partial, HasKind, Ref, Matches, MatchesAs, Takes}
 use Rattle.gix_refspec.proofs.Common.{IsRefPrefix, IsAsked, Source, name, AreForwardEnds, HasNoList, Lists, ListsAs}
-use Rattle.gix_refspec.proofs.Common.{ListsGroup, ListsSide, Serves, AreFetches, AskedItems, TakesItem, one_kind}
-use Rattle.gix_refspec.proofs.Common.{AnyOf as Any, Any-all, Any-right, any_joined, some_at, some_of, one_asked}
-use Rattle.gix_refspec.proofs.Common.{MakesForwardOf, TakesAt, all_weaker}
+use Rattle.gix_refspec.proofs.Common.{ListsGroup, ListsSide, Serves, AreFetches, TakesItem, one_kind, AnyOf as Any}
+use Rattle.gix_refspec.proofs.Common.{Any-all, Any-right, any_joined, some_at, some_of, one_asked, MakesForwardOf}
+use Rattle.gix_refspec.proofs.Common.{TakesAt, all_weaker}
 use Rattle.gix_refspec.proofs.lemmas.MadeLemmas.{any_at, ForwardAt, made_at_indexes}
-use Rattle.gix_refspec.proofs.lemmas.keep.FilterLemmas.{fewer_items}
 use Rattle.gix_refspec.proofs.lemmas.prefixes.CoverLemmas.{source_asked}
 
 pub list_as : (x : List ℕ) (k : SideKind) (list : List (List ℕ)) → HasKind x k → ListsSide x list → ListsAs k list
@@ -43,11 +42,12 @@ pub side_serves : (x : List ℕ) (list : List (List ℕ)) (r : Ref) (word : Opti
 side_serves x list r word no_object matches lists = kind_serves x matches.kind list r word matches.of no_object
     matches.is (list_as x matches.kind list matches.of lists)
 
-lists_side : (r : Reading) (x : List ℕ) (list : List (List ℕ)) → IsAsked r x → Lists r list → ListsSide x list
+pub lists_side : (r : Reading) (x : List ℕ) (list : List (List ℕ)) → IsAsked r x → Lists r list → ListsSide x list
 lists_side r x list asked lists = grind (arith, one_asked)
 
 -- an item that a fetch of the group takes begins with an entry of the list of the group
-taken_begins : (g : List Reading) (list : List (List ℕ)) (A : List Ref) (item : Ref) → ListsGroup g list → AreFetches g
+pub taken_begins : (g : List Reading) (list : List (List ℕ)) (A : List Ref) (item : Ref) → ListsGroup g list
+    → AreFetches g
     → AnyAt (TakesItem AreForwardEnds (Takes A) item) g → AnyAt (λ p. BeginsWith p item.name) list
 taken_begins g list A item joined fetches any =
     some_at (λ p. BeginsWith p item.name) list
@@ -69,10 +69,6 @@ serves g list joined fetches items kept are =
     (record { ends = made.ends; has = made.has; word = made.paired.word; takes = made.paired.takes }))))
     kept ((made_at_indexes g items).forward kept are)
 
-pub asked_items : (g : List Reading) (A B : List Ref) → AskedItems g A B
-asked_items g A B list told fetches are = (fewer_items g A B).forward are.part
-    (λ item there any. are.asked item there (taken_begins g list A item told fetches any))
-
 pub list_of_side : (r : Reading) (x : List ℕ) (asked : Option (Vec BString Global)) → IsAsked r x
     → MatchOption asked ((list : List (List ℕ)) → ¬ (ListsSide x list)) (λ v. ListsSide x (map bstring_bytes v.items))
     → MatchOption asked ((list : List (List ℕ)) → ¬ (Lists r list)) (λ v. Lists r (map bstring_bytes v.items))
@@ -82,7 +78,7 @@ list_of_side r x (Some v) is lists = inr (x, is, lists)
 as_once : (k : SideKind) (a b : List (List ℕ)) → ListsAs k a → ListsAs k b → a ≡ b
 as_once k a b one other = grind arith
 
-lists_once : (r : Reading) (a b : List (List ℕ)) → Lists r a → Lists r b → a ≡ b
+pub lists_once : (r : Reading) (a b : List (List ℕ)) → Lists r a → Lists r b → a ≡ b
 lists_once r a b (inl (negative, empty)) (inl (also, other)) = empty ∙ sym other
 lists_once r a b (inl (negative, empty)) (inr (x, asked, lists)) = absurd (subst IsPositive negative asked.positive)
 lists_once r a b (inr (x, asked, one)) other = as_once one.kind a b one.is

@@ -2,6 +2,7 @@
 
 use super::{answer_of, mark, marked, say_answered, say_refused};
 use bstr::{BStr, BString};
+use gix_refspec::match_group::RefPrefixes;
 use gix_refspec::name::{PatternError, has_one_star, pattern_partial};
 use gix_refspec::parsing::{Error, Operation};
 use gix_refspec::{MatchGroup, RefSpecRef, parse};
@@ -129,13 +130,13 @@ fn asks_for_a_group(rt: HostRuntime) -> Result<(), Fail> {
     }
     let group = MatchGroup { specs };
     match marked!(alloc, group.ref_prefixes(alloc)) {
-        Ok(Some(names)) => {
-            assert_eq!(&rt; names.len(), 7);
+        Ok(RefPrefixes::Listed(names)) => {
+            assert_eq!(&rt; names.len(), 5);
             assert_eq!(&rt; names[0].as_bytes(), b"main".as_slice());
-            assert_eq!(&rt; names[6].as_bytes(), b"refs/heads/".as_slice());
+            assert_eq!(&rt; names[4].as_bytes(), b"refs/heads/".as_slice());
             say_answered(&rt)
         }
-        Ok(None) => Err("no list".into()),
+        Ok(_) => Err("no list".into()),
         Err(_) => say_refused(&rt),
     }
 }

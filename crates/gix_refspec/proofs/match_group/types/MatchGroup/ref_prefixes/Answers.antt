@@ -1,39 +1,26 @@
-use Rattle.gix_refspec.proofs.Common.{length, ap, arith, take_all, on_any_error, rules}
-use Rattle.gix_refspec.proofs.lemmas.prefixes.AskedLemmas.{asks_no_names, none_at, nothing_at, one_more_list, serves}
+-- With no others, what is requested is that for the group alone.
+use Rattle.gix_refspec.proofs.Common.{readings_of}
+use Rattle.gix_refspec.proofs.lemmas.prefixes.NeededLemmas.{request_needed}
+use Rattle.gix_refspec.proofs.lemmas.prefixes.RequestLemmas.{err_weaker, group_beside, request_apart, request_serves}
 use Rattle.gix_refspec.proofs.match_group.types.MatchGroup.ref_prefixes.Goals as goal
+use Rattle.std.proofs.lemmas.Result.{IfOk-weaker}
 
-pub returns-in_err-names-clause-memory : goal.returns-in_err-names-clause-memory
-returns-in_err-names-clause-memory c =
-    on_any_error c.from_residual.result
-    (rw (← c.deref-spec-items.ensures.value)
-    (λ asks. c.in_err-names.ensures.memory
-    (nothing_at c.deref-spec-items.result.now c.loop-spec.spec-index c.spec-item.result c.loop-spec-test.true
-    c.spec-item.is asks)))
-
-pub returns-in_default-clause-ok : goal.returns-in_default-clause-ok
-returns-in_default-clause-ok c = search (rules, none_at)
-
-pub returns-in_err-append-clause-memory : goal.returns-in_err-append-clause-memory
-returns-in_err-append-clause-memory c =
-    let specs = c.deref-spec-items.result.now in
-    let names = c.in-Some.names in
-    let given = rw c.in-Some.is at c.in_ok-names.ensures.ok in
-    on_any_error c.from_residual-in_err-append.result (λ asks.
-    let nothing = rw (← c.deref-spec-items.ensures.value) at asks in
-    omega (
-      arith,
-      c.in_err-append.ensures.full,
-      c.loop-spec.list.ok.1,
-      names.ok.0,
-      asks_no_names specs c.loop-spec.spec-index c.spec-item.result names.items c.loop-spec-test.true c.spec-item.is
-          given nothing,
-    ))
-
-pub loop-spec-preserved : goal.loop-spec-preserved
-loop-spec-preserved c = search (rules, one_more_list)
+pub returns-clause-ok : goal.returns-clause-ok
+returns-clause-ok c = rw c.new.ensures.items at c.ref_prefixes_beside.ensures.ok
 
 pub returns-clause-serves : goal.returns-clause-serves
-returns-clause-serves c =
-    let all = take_all c.loop-spec.spec-index c.args.self.now.specs.items
-    (omega (arith, c.loop-spec-test.false, ap length c.deref-spec-items.ensures.value)) in
-    serves _ _ (rw all at c.loop-spec.invariant)
+returns-clause-serves c = IfOk-weaker c.ref_prefixes_beside.result _ _ (request_serves (readings_of c.args.self.now))
+    (rw c.new.ensures.items at c.ref_prefixes_beside.ensures.ok)
+
+pub returns-clause-apart : goal.returns-clause-apart
+returns-clause-apart c = IfOk-weaker c.ref_prefixes_beside.result _ _ (request_apart (readings_of c.args.self.now))
+    (rw c.new.ensures.items at c.ref_prefixes_beside.ensures.ok)
+
+pub returns-clause-needed : goal.returns-clause-needed
+returns-clause-needed c = IfOk-weaker c.ref_prefixes_beside.result _ _ (request_needed (readings_of c.args.self.now))
+    (rw c.new.ensures.items at c.ref_prefixes_beside.ensures.ok)
+
+pub returns-clause-memory : goal.returns-clause-memory
+returns-clause-memory c = err_weaker c.ref_prefixes_beside.result _ _
+    (λ other lists. other (group_beside (readings_of c.args.self.now) lists))
+    (rw c.new.ensures.items at c.ref_prefixes_beside.ensures.memory)
