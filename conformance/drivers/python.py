@@ -12,7 +12,7 @@ sys.dont_write_bytecode = True
 sys.path.insert(0, os.path.join(os.path.dirname(os.path.abspath(__file__)), os.pardir))
 import gix_refspec
 import tables
-from gix_refspec import Direction, Operation, Outcome, RefspecError, Verdict
+from gix_refspec import Direction, Operation, Outcome, RefspecError, Request, Verdict
 
 COLUMNS = {Verdict.WRITTEN: "updates", Verdict.INVALID_SOURCE: "left_out", Verdict.INVALID_DESTINATION: "left_out",
            Verdict.INVALID_SIDES: "left_out", Verdict.CONTESTED: "conflicts", Verdict.OVERRULED: "overruled",
@@ -105,8 +105,9 @@ def stale(specs, remote, local):
 
 def prefixes(specs):
     found = gix_refspec.prefixes(specs)
-    ask = "all" if found is None else "some" if found else "nothing"
-    return {"ask": ask, "prefixes": list(dict.fromkeys(found or []))}
+    if isinstance(found, Request):
+        return {"ask": found.name.lower(), "prefixes": []}
+    return {"ask": "some", "prefixes": found}
 
 
 CALLS = {"validity": validity, "names": names, "canonical": canonical, "equality": equality, "forward": forward,

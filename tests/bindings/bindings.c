@@ -593,6 +593,9 @@ static void check_groups(void)
     gix_refspec_text push = TEXT("a:refs/heads/b");
     CHECK(gix_refspec_prefixes(&push, 1, GIX_REFSPEC_PUSH, buffer, 16, &len) == GIX_REFSPEC_OK);
     CHECK(len == 13 && memcmp(buffer, "refs/heads/b\n", 13) == 0);
+    gix_refspec_text begun[] = { TEXT("refs/heads/a"), TEXT("refs/heads/*:refs/x/*") };
+    CHECK(gix_refspec_prefixes(begun, 2, GIX_REFSPEC_FETCH, buffer, 16, &len) == GIX_REFSPEC_OK);
+    CHECK(len == 12 && memcmp(buffer, "refs/heads/\n", 12) == 0);
 }
 
 static const gix_refspec_text names[] = { TEXT("refs/heads/a"), TEXT("refs/heads/b"), TEXT("refs/tags/b") };

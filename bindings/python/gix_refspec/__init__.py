@@ -16,9 +16,10 @@ from typing import Callable, Iterable, List, Optional, Tuple, Union
 
 __version__ = "0.3.0"
 __all__ = ["Direction", "Effect", "Effects", "Fate", "Kind", "Mapping", "Mismatch", "Mode", "Operation", "Origin", "OriginKind",
-           "Outcome", "Plan", "RefspecError", "RemoteValue", "Side", "Sides", "Spec", "StaleRef", "Update", "Upstream",
-           "UpstreamKind", "Validity", "Verdict", "compare", "explanation", "from_parts", "library_version", "matches", "parse",
-           "plan", "prefetched", "prefixes", "read", "remote_value", "renamed", "stale", "upstream", "validate", "why"]
+           "Outcome", "Plan", "RefspecError", "RemoteValue", "Request", "Side", "Sides", "Spec", "StaleRef", "Update",
+           "Upstream", "UpstreamKind", "Validity", "Verdict", "compare", "explanation", "from_parts", "library_version",
+           "matches", "parse", "plan", "prefetched", "prefixes", "read", "remote_value", "renamed", "stale", "upstream",
+           "validate", "why"]
 
 # The soname, so that no library is loaded that this module wasn't written for.
 _SONAME = "libgix_refspec.so.0.3"
@@ -61,6 +62,12 @@ class Outcome(enum.IntEnum):
     MISSING_SOURCE = 23
     INVALID_ID = 24
     OTHER_PARTS = 25
+
+
+class Request(enum.Enum):
+    """What to request from a server without ref prefixes: nothing, so that no request is to be sent, or all refs."""
+    NOTHING = 1
+    ALL = 2
 
 
 class Mode(enum.IntEnum):
@@ -459,15 +466,16 @@ def compare(a: Text, b: Text, operation: Operation) -> int:
     return order.value
 
 
-def prefixes(fetches: Fetches) -> Optional[List[bytes]]:
-    """The ref prefixes to send to a server for fetches, texts or specs. None: ask for all refs. []: send no request."""
+def prefixes(fetches: Fetches) -> Union[Request, List[bytes]]:
+    """The ref prefixes to send to a server for fetches, texts or specs, of which none begins with another one; or else
+    Request.NOTHING or Request.ALL. The list isn't empty."""
     try:
         lines = _filled(_library.gix_refspec_prefixes, *_texts(_fetches(fetches)), Operation.FETCH)
     except RefspecError as error:
         if error.outcome == Outcome.NO_LIST:
-            return None
+            return Request.ALL
         raise
-    return lines.split(b"\n")[:-1]
+    return lines.split(b"\n")[:-1] or Request.NOTHING
 
 
 def matches(fetches: Fetches, names: Iterable[Text], direction: Direction) -> List[Mapping]:

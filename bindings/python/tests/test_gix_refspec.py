@@ -12,10 +12,10 @@ import unittest
 from typing import Callable
 
 import gix_refspec
-from gix_refspec import (Direction, Effect, Effects, Fate, Kind, Mapping, Mismatch, Mode, Operation, Origin, OriginKind, Outcome,
-                         Plan, RefspecError, RemoteValue, Side, Sides, StaleRef, Update, Upstream, UpstreamKind, Validity,
-                         Verdict, compare, explanation, from_parts, library_version, matches, parse, plan, prefetched, prefixes,
-                         read, remote_value, renamed, stale, upstream, validate, why)
+from gix_refspec import (Direction, Effect, Effects, Fate, Kind, Mapping, Mismatch, Mode, Operation, Origin, OriginKind,
+                         Outcome, Plan, RefspecError, RemoteValue, Request, Side, Sides, StaleRef, Update, Upstream,
+                         UpstreamKind, Validity, Verdict, compare, explanation, from_parts, library_version, matches, parse,
+                         plan, prefetched, prefixes, read, remote_value, renamed, stale, upstream, validate, why)
 
 
 class Lying(bytes):
@@ -255,8 +255,9 @@ class Calls(unittest.TestCase):
 
     def test_prefixes(self) -> None:
         self.assertEqual(prefixes([b"refs/heads/*:refs/x/*", b"refs/tags/v1"]), [b"refs/heads/", b"refs/tags/v1"])
-        self.assertEqual(prefixes([]), [])
-        self.assertIsNone(prefixes([b"*:refs/x/*"]))
+        self.assertEqual(prefixes([b"refs/heads/main", b"refs/heads/*:refs/x/*"]), [b"refs/heads/"])
+        self.assertIs(prefixes([]), Request.NOTHING)
+        self.assertIs(prefixes([b"*:refs/x/*"]), Request.ALL)
         name = b"refs/heads/" + b"a" * 1000
         self.assertEqual(prefixes([name]), [name])
 

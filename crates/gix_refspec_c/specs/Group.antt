@@ -5,7 +5,8 @@ use Rattle.gix_refspec_text.specs.declared.parsing.Operation.{Operation}
 use Rattle.gix_refspec.specs.Specs.Reading.{Reading}
 use Rattle.gix_refspec.specs.Specs.Grammar.{Reads}
 use Rattle.gix_refspec_text.specs.Matching.Prefix.{HasPrefix, IsExpansion}
-use Rattle.gix_refspec.specs.Matching.Asked.{HasNoList, ListsGroup, Serves}
+use Rattle.gix_refspec.specs.Matching.Asked.{ListsBeside, Requests, Serves}
+use Rattle.gix_refspec.specs.declared.match_group.prefixes.RefPrefixes.TheVariants as request
 use Rattle.gix_refspec_c.specs.declared.explanation.Text.{Text}
 use Rattle.gix_refspec_c.specs.declared.failure.Failure.{Failure}
 use Rattle.gix_refspec_c.specs.declared.failure.Failure.TheVariants as failure
@@ -59,21 +60,21 @@ pub record IsExpanded (op : Operation) (text answer : List ℕ) : Type 0 where
 abbrev pub IsUnexpanded : Operation → List ℕ → Failure → Type 0
 IsUnexpanded op text f = IsUnread op text f ⊎ ((f ≡ failure.NoMemory) × IsRefspec op text)
 
--- the texts are refspecs for the operation, and the answer has the ref prefixes of all of them, with a newline after
--- each: for these a server lists each name that a group of fetches maps from left to right
+-- the texts are refspecs for the operation, and the answer has the ref prefixes to send for all of them, with a newline
+-- after each: for these a server lists each name that a group of fetches maps from left to right
 pub record IsToAsk (op : Operation) (texts : List (List ℕ)) (answer : List ℕ) : Type 0 where
   pub group : List Reading
   pub read : AllZip (Reads op) texts group
   pub names : List (List ℕ)
-  pub lists : ListsGroup group names
+  pub lists : ListsBeside [] group names
   pub serves : Serves names group
   pub is : answer ≡ lines_of names
 
--- the texts are refspecs for the operation, and for some of them only a request for all refs is safe
+-- the texts are refspecs for the operation, and only a request for all refs is safe
 pub record HaveNoList (op : Operation) (texts : List (List ℕ)) : Type 0 where
   pub group : List Reading
   pub read : AllZip (Reads op) texts group
-  pub none : HasNoList group
+  pub all : Requests group request.All
 
 -- why there are no ref prefixes
 abbrev pub IsUnasked : Operation → List (List ℕ) → Failure → Type 0

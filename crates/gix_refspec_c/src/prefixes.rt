@@ -14,6 +14,7 @@ use crate::reading::{operation_of, read, read_all};
 use crate::write::write;
 use bstr::BString;
 use gix_refspec::RefSpecRef;
+use gix_refspec::match_group::RefPrefixes;
 use gix_refspec::parsing::Operation;
 use std::alloc::{AllocError, Global};
 
@@ -64,9 +65,10 @@ pub extern "C" fn gix_refspec_expand_prefixes(
 }
 
 /// The ref prefixes to send to a server, one per line, so that it lists each ref that the refspecs
-/// take. A server takes an empty list as a request for all refs. Fails with `NoList` if only such a
-/// request is safe. Sets `len` to the required size even if `buffer` is too small, and leaves `buffer`
-/// unchanged then; after any other failure nothing has changed.
+/// take. None begins with another one. If there are none, no request is needed: a server takes an empty
+/// list as a request for all refs. Fails with `NoList` if only such a request is safe. Sets `len` to the
+/// required size even if `buffer` is too small, and leaves `buffer` unchanged then; after any other
+/// failure nothing has changed.
 #[unsafe(no_mangle)]
 pub extern "C" fn gix_refspec_prefixes(
     alloc: Global,
@@ -177,11 +179,12 @@ fn lines_to_ask(alloc: Global, texts: &[Text<'_>], operation: Operation) -> Resu
         Err(failure) => return Err(failure),
     };
     match group.ref_prefixes(alloc) {
-        Ok(Some(names)) => match joined(alloc, names.as_slice()) {
+        Ok(RefPrefixes::Nothing) => Ok(Vec::new(alloc)),
+        Ok(RefPrefixes::Listed(names)) => match joined(alloc, names.as_slice()) {
             Ok(lines) => Ok(lines),
             Err(_) => Err(Failure::NoMemory),
         },
-        Ok(None) => Err(Failure::NoList),
+        Ok(RefPrefixes::All) => Err(Failure::NoList),
         Err(_) => Err(Failure::NoMemory),
     }
 }

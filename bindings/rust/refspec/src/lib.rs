@@ -630,24 +630,35 @@ pub fn library_version() -> String {
     String::from_utf8_lossy(told).into_owned()
 }
 
-/// The ref prefixes to send to a server, so that it lists each ref that specs fetch. `None`: ask for all refs. Empty:
-/// send no request. A push is refused.
+/// What to request from a server.
+#[derive(Clone, Debug, PartialEq, Eq, Hash)]
+pub enum RefPrefixes {
+    /// Send no request: one without ref prefixes would be for all refs.
+    Nothing,
+    /// These ref prefixes, of which none begins with another one. There is at least one.
+    Listed(Vec<Vec<u8>>),
+    /// All refs: send a request without ref prefixes.
+    All,
+}
+
+/// The ref prefixes to send to a server, so that it lists each ref that specs fetch. A push is refused.
 ///
 /// ```
-/// use refspec::{prefixes, Operation, Spec};
+/// use refspec::{prefixes, Operation, RefPrefixes, Spec};
 ///
 /// let specs = [Spec::parse("+refs/heads/*:refs/remotes/origin/*", Operation::Fetch)?];
-/// assert_eq!(prefixes(&specs)?, Some(vec![b"refs/heads/".to_vec()]));
+/// assert_eq!(prefixes(&specs)?, RefPrefixes::Listed(vec![b"refs/heads/".to_vec()]));
 /// # Ok::<(), refspec::Error>(())
 /// ```
-pub fn prefixes(fetches: &[Spec]) -> Result<Option<Vec<Vec<u8>>>, Error> {
+pub fn prefixes(fetches: &[Spec]) -> Result<RefPrefixes, Error> {
     let fetches = texts_of(fetches)?;
     let lines = filled(256, |buffer, len| unsafe {
         sys::gix_refspec_prefixes(fetches.as_ptr(), fetches.len(), sys::FETCH, buffer.as_mut_ptr(), buffer.len(), len)
     });
     match lines {
-        Ok(lines) => Ok(Some(names_in(&lines))),
-        Err(Error::Other(sys::NO_LIST)) => Ok(None),
+        Ok(lines) if lines.is_empty() => Ok(RefPrefixes::Nothing),
+        Ok(lines) => Ok(RefPrefixes::Listed(names_in(&lines))),
+        Err(Error::Other(sys::NO_LIST)) => Ok(RefPrefixes::All),
         Err(error) => Err(error),
     }
 }
@@ -1794,10 +1805,13 @@ mod tests {
     #[test]
     fn some_groups_have_no_list() -> Result<(), Error> {
         let specs = [Spec::parse("*:refs/x/*", Operation::Fetch)?];
-        assert_eq!(prefixes(&specs)?, None);
-        assert_eq!(prefixes(&[])?, Some(Vec::new()));
+        assert_eq!(prefixes(&specs)?, RefPrefixes::All);
+        assert_eq!(prefixes(&[])?, RefPrefixes::Nothing);
         let long = Spec::parse(format!("refs/heads/{}", "a".repeat(1000)), Operation::Fetch)?;
-        assert_eq!(prefixes(std::slice::from_ref(&long))?, Some(vec![long.as_bytes().to_vec()]));
+        assert_eq!(prefixes(std::slice::from_ref(&long))?, RefPrefixes::Listed(vec![long.as_bytes().to_vec()]));
+        let texts = ["refs/heads/main", "refs/heads/*:refs/x/*"];
+        let specs = texts.map(|text| Spec::parse(text, Operation::Fetch)).into_iter().collect::<Result<Vec<_>, _>>()?;
+        assert_eq!(prefixes(&specs)?, RefPrefixes::Listed(vec![b"refs/heads/".to_vec()]));
         Ok(())
     }
 }

@@ -9,8 +9,8 @@ pub returns-in-Ok-joined-clause-ok : goal.returns-in-Ok-joined-clause-ok
 returns-in-Ok-joined-clause-ok c = record {
   group = readings_of c.in-Ok.group;
   read = c.in-Ok.ensures.ok;
-  names = map bstring_bytes c.in-Ok-Some.names.items;
-  lists = rw c.in-Ok-Some.field-0-is at c.in-Ok-Some.ensures.ok;
-  serves = rw c.in-Ok-Some.field-0-is at c.in-Ok-Some.ensures.serves;
+  names = map bstring_bytes c.in-Ok-Listed.names.items;
+  lists = (rw c.in-Ok-Listed.field-0-is at c.in-Ok-Listed.ensures.ok).0;
+  serves = rw c.in-Ok-Listed.field-0-is at c.in-Ok-Listed.ensures.serves;
   is = c.in-Ok-joined.ensures ∙ ap (λ ns. lines_of (map bstring_bytes ns)) c.as_slice.ensures.value;
 }
