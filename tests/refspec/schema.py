@@ -14,6 +14,9 @@ from helpers.schema import jsonschema, listed, loaded, validator
 
 # The samples, each with what begins a call, and whether its bytes are escaped.
 SAMPLES = (("refspec.sample", b"= ", True), ("git-refspec.sample", b"$ ", False))
+# What only a call with 65,536 specs prints, which no sample has.
+LARGE = {"kind": "all",
+         "message": "These specs have more than 65,535 prefixes, and a server ignores so many. So ask for all refs."}
 
 
 def objects(name, call, is_escaped):
@@ -59,6 +62,7 @@ def main():
                 stop(f"{sample[0]}:{number}: not one object of the schema: {value}")
             next(found for part, _, found in parts if part.is_valid(value)).update(held(value))
             count += 1
+    next(found for part, _, found in parts if part.is_valid(LARGE)).update(held(LARGE))
     for _, part, found in parts:
         lacking = [path for path in listed(part) if path not in found]
         if lacking:

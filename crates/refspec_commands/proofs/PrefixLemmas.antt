@@ -1,8 +1,8 @@
 -- The ref prefixes to request from a server, in order.
-use Rattle.std.proofs.Common.{◌≡◌, ◌⊎◌, ℕ, ◌+◌, ◌<◌, Bool, true, false, not, is_some, MatchBool, MatchOption, Option}
-use Rattle.std.proofs.Common.{None, Some, Vec, Global, codes, List, [], ◌∷◌, ◌++◌, ◌≢◌, ◌≤◌, flat_map, get_or, inl, inr}
-use Rattle.std.proofs.Common.{length, map, take, refl, sym, ap, ◌∙◌, subst, arith}
-use Rattle.std.proofs.lemmas.Bool.{false≢true}
+use Rattle.std.proofs.Common.{◌≡◌, ◌⊎◌, ℕ, ◌+◌, ◌<◌, Bool, true, false}
+use Rattle.std.proofs.Common.{codes, List, [], ◌∷◌, ◌++◌, ◌≢◌, ◌≤◌, flat_map, get_or, inl, inr}
+use Rattle.std.proofs.Common.{◌==◌, length, map, take, refl, sym, ap, ◌∙◌, subst, arith}
+use Rattle.std.proofs.lemmas.Bool.{eqb-true, false≢true}
 use Rattle.std.proofs.lemmas.Grind.{flat_map-append}
 use Rattle.std.proofs.lemmas.List.{append-nil, length-map, map-append, take_more}
 use Rattle.refspec_io.specs.declared.call.Form.{Form}
@@ -16,10 +16,13 @@ use Rattle.refspec_io.specs.Json.{AddsObjects}
 use Rattle.refspec_io.specs.Shown.{AddsNames}
 use Rattle.refspec_io.proofs.JsonLemmas.{AddsObjects-next}
 use Rattle.refspec_io.proofs.ShownLemmas.{AddsNames-append, AddsNames-none, behind}
-use Rattle.gix_refspec.specs.Matching.Asked.{HasNoList, ListsGroup}
+use Rattle.gix_refspec.specs.Matching.Asked.{Requests}
+use Rattle.gix_refspec.specs.declared.match_group.prefixes.RefPrefixes.{RefPrefixes}
+use Rattle.gix_refspec.specs.declared.match_group.prefixes.RefPrefixes.TheVariants as requested
 use Rattle.refspec_commands.specs.declared.prefixes.report.Notation.{Notation}
-use Rattle.refspec_commands.specs.Prefixes.{AddsAll, AddsList, AddsNothing, AddsRequests, AreOthers, AreReasons}
-use Rattle.refspec_commands.specs.Prefixes.{IsReasonObject, ListsAsked, TakesWhole, argument, asked_object, request}
+use Rattle.refspec_commands.specs.Prefixes.{AddsAll, AddsRequests, AddsTooMany, AddsWhole, AreOthers, AreReasons}
+use Rattle.refspec_commands.specs.Prefixes.{CanBeListed, IsReason, IsReasonObject, IsWhole, TakesWhole, argument}
+use Rattle.refspec_commands.specs.Prefixes.{asked_object, request}
 
 -- what stands for all refs, and one more reason
 pub AddsAll-next : (n : Notation) (f g : Form) (specs : List RefSpecRef) (i : ℕ) (s : RefSpecRef) (old mid new : List ℕ)
@@ -87,33 +90,25 @@ others_many (r ∷ g) others (inr (other, (more, those, same))) =
     let size = ap length same in
     (omega (arith, rest.0, size), λ long. same ∙ ap (λ l. r ∷ l) (rest.1 (omega (arith, long, size))))
 
--- the list: `refs/` first if the other specs are fewer, then theirs
-pub ListsAsked-whole : (specs others : List RefSpecRef) (p : BString) (own before after : List BString)
-    → length others < length specs → bstring_bytes p ≡ codes "refs/" → before ≡ [] ++ p ∷ [] → after ≡ before ++ own
-    → ListsGroup (map reading_of others) (map bstring_bytes own)
-    → ListsAsked (map reading_of specs) (map reading_of others) (map bstring_bytes after)
-ListsAsked-whole specs others p own before after fewer whole first then_own lists = record {
-  has_whole = true;
-  own = map bstring_bytes own;
-  whole = λ same. omega (arith, fewer, ap length same, length-map others reading_of, length-map specs reading_of);
-  lists = lists;
-  is = ap (map bstring_bytes) (then_own ∙ ap (λ l. l ++ own) first) ∙ ap (λ l. l ∷ map bstring_bytes own) whole;
-}
+-- if the other specs are fewer, `refs/` is requested beside them
+pub IsWhole-fewer : (specs others : List RefSpecRef) (p : BString) (whole : List BString)
+    → length others < length specs → bstring_bytes p ≡ codes "refs/" → whole ≡ [] ++ p ∷ []
+    → IsWhole (map reading_of specs) (map reading_of others) (map bstring_bytes whole)
+IsWhole-fewer specs others p whole fewer is first = inl (
+  (λ same. omega (arith, fewer, ap length same, length-map others reading_of, length-map specs reading_of)),
+  ap (map bstring_bytes) first ∙ ap (λ (x : List ℕ). x ∷ []) is,
+)
 
--- if the others are as many as all, the list is theirs
-pub ListsAsked-own : (specs others : List RefSpecRef) (own after : List BString) → length specs ≤ length others
-    → AreOthers (map reading_of specs) (map reading_of others) → after ≡ [] ++ own
-    → ListsGroup (map reading_of others) (map bstring_bytes own)
-    → ListsAsked (map reading_of specs) (map reading_of others) (map bstring_bytes after)
-ListsAsked-own specs others own after most are is lists =
+-- if they are as many as all, nothing is
+pub IsWhole-same : (specs others : List RefSpecRef) (whole : List BString) → length specs ≤ length others
+    → AreOthers (map reading_of specs) (map reading_of others) → whole ≡ []
+    → IsWhole (map reading_of specs) (map reading_of others) (map bstring_bytes whole)
+IsWhole-same specs others whole most are none =
     let many = others_many (map reading_of specs) (map reading_of others) are in
-    record {
-      has_whole = false;
-      own = map bstring_bytes own;
-      whole = many.1 (omega (arith, most, length-map others reading_of, length-map specs reading_of, many.0));
-      lists = lists;
-      is = ap (map bstring_bytes) is;
-    }
+    inr (
+      many.1 (omega (arith, most, length-map others reading_of, length-map specs reading_of, many.0)),
+      ap (map bstring_bytes) none,
+    )
 
 -- ---- the specs that are the reason why all refs are requested
 
@@ -137,9 +132,9 @@ AreReasons-next specs i s old new below is so_far one =
     subst (λ (l : List Reading). AreReasons l (old ++ new)) (sym (readings_next specs i s below is))
     (AreReasons-append (map reading_of (take i specs)) (reading_of s ∷ []) old new so_far one)
 
--- one more spec with a list, and one without
+-- one more spec with a list that can be sent, and one without
 pub AreReasons-listed : (specs : List RefSpecRef) (i : ℕ) (s : RefSpecRef) (old : List RefSpecRef) → i < length specs
-    → s ≡ get_or specs i s → (list : List (List ℕ)) × ListsGroup (reading_of s ∷ []) list
+    → s ≡ get_or specs i s → CanBeListed (reading_of s)
     → AreReasons (map reading_of (take i specs)) (map reading_of old)
     → AreReasons (map reading_of (take (i + 1) specs)) (map reading_of old)
 AreReasons-listed specs i s old below is listed so_far =
@@ -147,7 +142,7 @@ AreReasons-listed specs i s old below is listed so_far =
     (AreReasons-next specs i s (map reading_of old) [] below is so_far (inr (listed, refl)))
 
 pub AreReasons-without : (specs : List RefSpecRef) (i : ℕ) (s : RefSpecRef) (old new : List RefSpecRef)
-    → i < length specs → s ≡ get_or specs i s → HasNoList (reading_of s ∷ []) → new ≡ old ++ s ∷ []
+    → i < length specs → s ≡ get_or specs i s → IsReason (reading_of s) → new ≡ old ++ s ∷ []
     → AreReasons (map reading_of (take i specs)) (map reading_of old)
     → AreReasons (map reading_of (take (i + 1) specs)) (map reading_of new)
 AreReasons-without specs i s old new below is without grown so_far =
@@ -156,17 +151,13 @@ AreReasons-without specs i s old new below is without grown so_far =
     (AreReasons-next specs i s (map reading_of old) (reading_of s ∷ []) below is so_far
     (inl (without, ([], refl, refl))))
 
--- whether a spec alone is a reason
-pub is_reason-of : (o : Option (Vec BString Global)) (b : Bool) (g h : List Reading) → is_some o ≡ not b → g ≡ h
-    → MatchOption o (HasNoList g) (λ list. ListsGroup g (map bstring_bytes list.items))
-    → MatchBool b (HasNoList h) ((list : List (List ℕ)) × ListsGroup h list)
-is_reason-of None true g h same is none = subst HasNoList is none
-is_reason-of None false g h same is none = absurd (false≢true same)
-is_reason-of (Some list) true g h same is lists = absurd (false≢true (sym same))
-is_reason-of (Some list) false g h same is lists = (
-  map bstring_bytes list.items,
-  subst (λ (l : List Reading). ListsGroup l (map bstring_bytes list.items)) is lists,
-)
+-- a spec alone, as the group of one
+pub is_reason-of : (h : List Reading) (r : Reading) → h ≡ r ∷ [] → Requests h requested.All → IsReason r
+is_reason-of h r same all = subst (λ (g : List Reading). Requests g requested.All) same all
+
+pub listed-of : (h : List Reading) (r : Reading) (asked : RefPrefixes) → h ≡ r ∷ [] → Requests h asked
+    → asked ≢ requested.All → CanBeListed r
+listed-of h r asked same some other = (asked, subst (λ (g : List Reading). Requests g asked) same some, other)
 
 -- prefixes and then others
 AddsRequests-append : (n : Notation) (f : Form) (xs ys : List (List ℕ)) (old mid new : List ℕ)
@@ -215,13 +206,21 @@ AddsRequests-named n f p before name old new either is_before is_name reported =
     (subst (λ (x : List ℕ). AddsNames f (argument n) (x ∷ []) old new) is_name
     (subst (λ (x : List ℕ). AddsNames f x (name ∷ []) old new) is_before reported))
 
--- a list that isn't empty
-pub AddsList-of : (n : Notation) (f : Form) (list : List (List ℕ)) (old new : List ℕ) → (list ≡ [] → ⊥)
-    → AddsRequests n f list old new → AddsList n f list old new
-AddsList-of n f [] old new some reported = absurd (some refl)
-AddsList-of n f (p ∷ list) old new some reported = reported
+-- all refs for some specs, and for none of them alone
+pub AddsWhole-of : (n : Notation) (f : Form) (reasons : List Reading) (old new : List ℕ) → (reasons ≡ [] → ⊥)
+    → AddsAll n f reasons old new → AddsWhole n f reasons old new
+AddsWhole-of n f [] old new some reported = absurd (some refl)
+AddsWhole-of n f (r ∷ reasons) old new some reported = reported
 
--- an empty list
-pub AddsList-none : (n : Notation) (f : Form) (list : List (List ℕ)) (old new : List ℕ) → list ≡ []
-    → AddsNothing f old new → AddsList n f list old new
-AddsList-none n f list old new none reported = subst (λ (l : List (List ℕ)). AddsList n f l old new) (sym none) reported
+pub AddsWhole-none : (n : Notation) (f : Form) (reasons : List Reading) (old new : List ℕ) → reasons ≡ []
+    → AddsTooMany n f old new → AddsWhole n f reasons old new
+AddsWhole-none n f reasons old new none reported =
+    subst (λ (g : List Reading). AddsWhole n f g old new) (sym none) reported
+
+pub no_reasons : (reasons : List RefSpecRef) → true ≡ (length reasons == 0) → map reading_of reasons ≡ []
+no_reasons [] is = refl
+no_reasons (s ∷ reasons) is = absurd (omega (arith, eqb-true _ _ (sym is)))
+
+pub some_reasons : (reasons : List RefSpecRef) → false ≡ (length reasons == 0) → map reading_of reasons ≡ [] → ⊥
+some_reasons [] is none = false≢true is
+some_reasons (s ∷ reasons) is none = cc

@@ -2,12 +2,14 @@
 use Rattle.std.specs.Prelude.{◌≡◌, ◌≢◌, ◌⊎◌, ℕ, Bool, true, false, List, [], ◌∷◌, ◌++◌, MatchBool, Some, map, codes}
 use Rattle.std.specs.List.{flat_map}
 use Rattle.bstr.specs.Owned.{bstring_bytes}
-use Rattle.gix_refspec.specs.Matching.Asked.{HasNoList, ListsGroup}
+use Rattle.gix_refspec.specs.Matching.Asked.{Requests, RequestsBeside}
+use Rattle.gix_refspec.specs.declared.match_group.prefixes.RefPrefixes.{RefPrefixes}
+use Rattle.gix_refspec.specs.declared.match_group.prefixes.RefPrefixes.TheVariants as requested
 use Rattle.gix_refspec.specs.Specs.Grammar.{IsPositive}
 use Rattle.gix_refspec.specs.Specs.Meaning.{printed}
 use Rattle.gix_refspec.specs.Specs.Reading.{Reading}
 use Rattle.gix_refspec.specs.Views.Spec.{reading_of}
-use Rattle.refspec_json.specs.Objects.{line_of, noted_object, nothing_object, prefix_object}
+use Rattle.refspec_json.specs.Objects.{all_object, line_of, noted_object, nothing_object, prefix_object}
 use Rattle.refspec_io.specs.declared.call.Form.{Form}
 use Rattle.refspec_io.specs.declared.call.Form.TheVariants as form
 use Rattle.refspec_io.specs.Json.{AddsObjects, json_text}
@@ -66,10 +68,16 @@ AddsRequests n form.Json list old new = new ≡ old ++ flat_map asked_object lis
 AddsRequests n form.Lines list old new = AddsNames form.Lines (argument n) (map (request n) list) old new
 AddsRequests n form.Zeros list old new = AddsNames form.Zeros (argument n) (map (request n) list) old new
 
--- the results grew by prefixes, or by the report that no request is needed
-abbrev pub AddsList : Notation → Form → List (List ℕ) → List ℕ → List ℕ → Type 0
-AddsList n form [] old new = AddsNothing form old new
-AddsList n form (p ∷ list) old new = AddsRequests n form (p ∷ list) old new
+-- the results grew by what stands for all refs, as there are too many prefixes: in JSON by an object with a sentence
+abbrev pub AddsTooMany : Notation → Form → List ℕ → List ℕ → Type 0
+AddsTooMany n form.Lines old new = new ≡ old ++ all_line n
+AddsTooMany n form.Zeros old new = new ≡ old ++ all_field n
+AddsTooMany n form.Json old new = (message : List ℕ) × (new ≡ old ++ line_of (all_object message))
+
+-- the results grew by the report that all refs must be requested, for these specs or, without any, for all together
+abbrev pub AddsWhole : Notation → Form → List Reading → List ℕ → List ℕ → Type 0
+AddsWhole n form [] old new = AddsTooMany n form old new
+AddsWhole n form (r ∷ g) old new = AddsAll n form (r ∷ g) old new
 
 -- the spec is positive, and its star is right after `refs/`: Git requests `refs/` for it (git-fetch(1), protocol v2)
 abbrev pub TakesWhole : Reading → Type 0
@@ -82,37 +90,45 @@ AreOthers (r ∷ g) others =
     (TakesWhole r × AreOthers g others)
     ⊎ ((¬ (TakesWhole r)) × ((rest : List Reading) × AreOthers g rest × (others ≡ r ∷ rest)))
 
--- prefixes, after `refs/` if that is requested too
-abbrev pub asked_with : Bool → List (List ℕ) → List (List ℕ)
-asked_with true list = codes "refs/" ∷ list
-asked_with false list = list
+-- what is requested beside the prefixes of the other specs: `refs/` if not all specs are among these
+abbrev pub IsWhole : List Reading → List Reading → List (List ℕ) → Type 0
+IsWhole g others whole = ((others ≢ g) × (whole ≡ codes "refs/" ∷ [])) ⊎ ((others ≡ g) × (whole ≡ []))
 
--- the prefixes to request, in order: those of the other specs, after `refs/` if not all specs are among these
-pub record ListsAsked (g others : List Reading) (list : List (List ℕ)) : Type 0 where
-  pub has_whole : Bool
-  pub own : List (List ℕ)
-  pub whole : MatchBool has_whole (others ≢ g) (others ≡ g)
-  pub lists : ListsGroup others own
-  pub is : list ≡ asked_with has_whole own
+-- the spec alone has no list that can be sent
+abbrev pub IsReason : Reading → Type 0
+IsReason r = Requests (r ∷ []) requested.All
 
--- the specs for which no list is safe, in order; each other has one
+-- the spec alone has one
+abbrev pub CanBeListed : Reading → Type 0
+CanBeListed r = (asked : RefPrefixes) × Requests (r ∷ []) asked × (asked ≢ requested.All)
+
+-- the specs without a list that can be sent, in order; each other has one
 abbrev pub AreReasons : List Reading → List Reading → Type 0
 AreReasons [] reasons = reasons ≡ []
 AreReasons (r ∷ g) reasons =
-    (HasNoList (r ∷ []) × ((rest : List Reading) × AreReasons g rest × (reasons ≡ r ∷ rest)))
-    ⊎ (((list : List (List ℕ)) × ListsGroup (r ∷ []) list) × AreReasons g reasons)
+    (IsReason r × ((rest : List Reading) × AreReasons g rest × (reasons ≡ r ∷ rest)))
+    ⊎ (CanBeListed r × AreReasons g reasons)
 
--- the answer for specs with these readings: prefixes, or all refs if no list is safe for the other specs
-abbrev pub IsAnswer : List Reading → Answer → Type 0
-IsAnswer g (answer.Listed list) =
-    (others : List Reading) × AreOthers g others × ListsAsked g others (map bstring_bytes list.items)
-IsAnswer g (answer.All reasons) =
-    (others : List Reading) × AreOthers g others × HasNoList others × AreReasons others (map reading_of reasons.items)
+-- the answer is what is requested for specs beside `refs/` or nothing; and if that is all refs, it has the reasons
+abbrev pub AnswersFor : List (List ℕ) → List Reading → Answer → Type 0
+AnswersFor whole others answer.Nothing = RequestsBeside whole others requested.Nothing
+AnswersFor whole others (answer.Listed list) = RequestsBeside whole others (requested.Listed list)
+AnswersFor whole others (answer.All reasons) =
+    RequestsBeside whole others requested.All × AreReasons others (map reading_of reasons.items)
+
+-- the answer for specs with these readings
+pub record IsAnswer (g : List Reading) (a : Answer) : Type 0 where
+  pub others : List Reading
+  pub are : AreOthers g others
+  pub whole : List (List ℕ)
+  pub is_whole : IsWhole g others whole
+  pub answers : AnswersFor whole others a
 
 -- the results grew by an answer
 abbrev pub AddsAnswer : Notation → Answer → Form → List ℕ → List ℕ → Type 0
-AddsAnswer n (answer.Listed list) form old new = AddsList n form (map bstring_bytes list.items) old new
-AddsAnswer n (answer.All reasons) form old new = AddsAll n form (map reading_of reasons.items) old new
+AddsAnswer n answer.Nothing form old new = AddsNothing form old new
+AddsAnswer n (answer.Listed list) form old new = AddsRequests n form (map bstring_bytes list.items) old new
+AddsAnswer n (answer.All reasons) form old new = AddsWhole n form (map reading_of reasons.items) old new
 
 -- the results grew by the answer for specs with these readings
 abbrev pub AddsPrefixes : Notation → Form → List Reading → List ℕ → List ℕ → Type 0

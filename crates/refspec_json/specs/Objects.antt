@@ -202,6 +202,12 @@ nothing_object message = object (
     member (codes "kind") (string (codes "nothing")) (
     member (codes "message") (string message) no_members))
 
+-- all refs must be requested for all specs together
+abbrev pub all_object : (message : List ℕ) → Data
+all_object message = object (
+    member (codes "kind") (string (codes "all")) (
+    member (codes "message") (string message) no_members))
+
 -- a spec that a warning is about: its location and its text
 pub record Warned : Type 0 where
   pub location : List ℕ

@@ -14,7 +14,7 @@ mod warnings;
 
 pub use fates::{Fate, NotFetched};
 pub use mappings::{Claim, Conflict, DirectoryConflict, LeftOut, Mapping, Overruled};
-pub use prefixes::{Nothing, Prefix};
+pub use prefixes::{AllTogether, Nothing, Prefix};
 pub use refs::{Kept, Malformed, Missing, Stale, Untracked};
 pub use remotes::{Ignored, NoUpstream, Prefetch, Renamed, Unchanged, Upstream};
 pub use specs::{All, Refused, Spec, SpecKind, ToObject};

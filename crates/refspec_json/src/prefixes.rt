@@ -2,7 +2,7 @@
 
 ghost use Rattle.std.specs.Prelude.{◌≡◌, ◌++◌, IfOk, OnOk};
 ghost use Rattle.serde_json.specs.View.{view};
-ghost use Rattle.refspec_json.specs.Objects.{line_of, prefix_object, nothing_object};
+ghost use Rattle.refspec_json.specs.Objects.{all_object, line_of, nothing_object, prefix_object};
 
 use crate::line::write_value;
 use serde_json::{Value, json};
@@ -56,6 +56,31 @@ impl Nothing<'_> {
     {
         json!(in alloc; {
             "kind": "nothing",
+            "message": self.message,
+        })
+    }
+}
+
+/// All refs must be requested, for all specs together.
+#[derive(Drop)]
+pub struct AllTogether<'a> {
+    pub message: &'a str,
+}
+
+impl AllTogether<'_> {
+    /// Appends its object and a newline.
+    pub fn write_line(&self, alloc: Global, out: &mut Vec<u8>) -> Result<(), AllocError>
+        ensures { OnOk result (out.new.items ≡ out.old.items ++ line_of (all_object
+            self.now.message.now)) }
+    {
+        write_value(alloc, out, &self.object(alloc)?)
+    }
+
+    fn object(&self, alloc: Global) -> Result<Value, AllocError>
+        ensures { IfOk result (λ v. view v ≡ all_object self.now.message.now) }
+    {
+        json!(in alloc; {
+            "kind": "all",
             "message": self.message,
         })
     }

@@ -1,11 +1,9 @@
 -- The prefixes that a group asks for, and the report that a key lacks its value.
-use Rattle.std.proofs.Common.{◌≡◌, ◌≢◌, ℕ, Bool, MatchBool, true, false, List, [], ◌∷◌, Some, ap, arith, codes}
+use Rattle.std.proofs.Common.{◌≡◌, ◌≢◌, ℕ, true, false, List, [], ◌∷◌, Some, ap, arith, codes, inl, inr}
 use Rattle.std.proofs.Common.{length, refl, subst}
 use Rattle.std.proofs.lemmas.Bool.{false≢true}
-use Rattle.gix_refspec.specs.Matching.Asked.{ListsGroup}
 use Rattle.gix_refspec.specs.Specs.Grammar.{fetched}
 use Rattle.gix_refspec.specs.Specs.Reading.{Normal, Reading}
-use Rattle.gix_refspec.proofs.facts.AskedFacts.{lists_of_specs}
 use Rattle.gix_refspec_text.proofs.facts.FitFacts.{every}
 use Rattle.refspec_io.specs.declared.call.Call.{Call}
 use Rattle.refspec_io.specs.declared.call.Command.TheVariants as command
@@ -17,7 +15,7 @@ use Rattle.refspec_io.specs.Settings.{HasLacking}
 use Rattle.refspec_io.proofs.facts.LackingFacts.{input_alone, input_whole, lacking, not_lacking, read}
 use Rattle.refspec_io.proofs.facts.SettingFacts.{alone, whole}
 use Rattle.refspec_commands.specs.Output.{LacksValues}
-use Rattle.refspec_commands.specs.Prefixes.{ListsAsked, asked_with}
+use Rattle.refspec_commands.specs.Prefixes.{IsWhole}
 
 abbrev all_refs : Reading
 all_refs = fetched Normal (codes "refs/*") (Some (codes "refs/x/*"))
@@ -32,45 +30,26 @@ settings_call call = record call { command = command.Canon; form = form.Lines; e
 abbrev settings_files : Files → List ℕ → Files
 settings_files files settings = record files { specs = record files.specs { now = settings } }
 
--- the list of a group with one spec for branches
-of_branches : ListsGroup (every ∷ []) (codes "refs/heads/" ∷ [])
-of_branches = (codes "refs/heads/" ∷ [], [], lists_of_specs.0, refl, refl)
-
--- the prefixes of the other specs, and before them `refs/` exactly if another spec takes that
-pub asked : ListsAsked (every ∷ []) (every ∷ []) (codes "refs/heads/" ∷ [])
-    × ListsAsked (all_refs ∷ every ∷ []) (every ∷ []) (codes "refs/" ∷ codes "refs/heads/" ∷ [])
-    × ListsAsked (all_refs ∷ []) [] (codes "refs/" ∷ [])
+-- `refs/` is requested beside the prefixes of the other specs exactly if some spec takes that
+pub asked : IsWhole (every ∷ []) (every ∷ []) [] × IsWhole (all_refs ∷ every ∷ []) (every ∷ []) (codes "refs/" ∷ [])
+    × IsWhole (all_refs ∷ []) [] (codes "refs/" ∷ [])
 asked = (
-  record { has_whole = false; own = codes "refs/heads/" ∷ []; whole = refl; lists = of_branches; is = refl },
-  record {
-    has_whole = true;
-    own = codes "refs/heads/" ∷ [];
-    whole = λ same. omega (
-      arith,
-      ap length same,
-    );
-    lists = of_branches;
-    is = refl;
-  },
-  record { has_whole = true; own = []; whole = λ same. omega (arith, ap length same); lists = refl; is = refl },
+  inr (refl, refl),
+  inl ((λ same. omega (arith, ap length same)), refl),
+  inl ((λ same. omega (arith, ap length same)), refl),
 )
 
--- `refs/` is neither left out nor asked for without need
-pub not_asked : ¬ (ListsAsked (all_refs ∷ []) [] []) × ¬ (ListsAsked [] [] (codes "refs/" ∷ []))
-not_asked = (
-  (λ is. left is.has_whole is.whole is.own is.is),
-  λ is. needless is.has_whole is.whole is.own is.lists is.is,
-)
+-- it is neither left out nor asked for without need
+pub not_asked : ¬ (IsWhole (all_refs ∷ []) [] []) × ¬ (IsWhole no_readings [] (codes "refs/" ∷ []))
+not_asked = (left, needless)
   where
-    left : (has_whole : Bool) → MatchBool has_whole ([] ≢ all_refs ∷ []) ([] ≡ all_refs ∷ []) → (own : List (List ℕ))
-        → ¬ ([] ≡ asked_with has_whole own)
-    left true some own same = omega (arith, ap length same)
-    left false none own same = omega (arith, ap length none)
+    left : ¬ (IsWhole (all_refs ∷ []) [] [])
+    left (inl (some, same)) = omega (arith, ap length same)
+    left (inr (none, same)) = omega (arith, ap length none)
 
-    needless : (has_whole : Bool) → MatchBool has_whole ([] ≢ no_readings) ([] ≡ no_readings) → (own : List (List ℕ))
-        → ListsGroup [] own → ¬ (codes "refs/" ∷ [] ≡ asked_with has_whole own)
-    needless true some own lists same = some refl
-    needless false none own lists same = omega (arith, ap length same, ap length lists)
+    needless : ¬ (IsWhole no_readings [] (codes "refs/" ∷ []))
+    needless (inl (some, same)) = some refl
+    needless (inr (none, same)) = omega (arith, ap length same)
 
 -- a key without a value is all that is reported, and the call is refused
 pub lacks : (call : Call) (files : Files) (report : Report) → report.results.items ≡ []

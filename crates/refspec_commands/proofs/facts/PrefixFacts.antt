@@ -1,11 +1,15 @@
 -- Which prefixes are requested, as lines of protocol v2 and as patterns, and which aren't.
-use Rattle.std.proofs.Common.{◌≡◌, ℕ, true, false, List, [], ◌∷◌, ◌++◌, Some, Vec, Global, inl, inr, codes, length, map}
-use Rattle.std.proofs.Common.{refl, sym, ap, ◌∙◌, subst, arith}
+use Rattle.std.proofs.Common.{◌≡◌, ◌≢◌, ℕ, true, false, List, [], ◌∷◌, ◌++◌, Some, Vec, Global, inl, inr, codes, length}
+use Rattle.std.proofs.Common.{map, refl, sym, ap, ◌∙◌, subst, arith}
 use Rattle.std.specs.Str.{chars, is_utf8}
 use Rattle.gix_refspec.specs.Specs.Grammar.{fetched}
 use Rattle.gix_refspec.specs.Specs.Reading.{Negative, Normal, Reading}
-use Rattle.gix_refspec.specs.Matching.Asked.{HasNoList, Lists, ListsGroup, ListsSide}
-use Rattle.gix_refspec.proofs.facts.AskedFacts.{lists_at_brackets, lists_of_specs, none_for_all}
+use Rattle.gix_refspec.specs.Matching.Asked.{CanBeSent, HasNoList, Lists, ListsBeside, ListsGroup, ListsSide, Requests}
+use Rattle.gix_refspec.specs.declared.match_group.prefixes.RefPrefixes.{RefPrefixes}
+use Rattle.gix_refspec.specs.declared.match_group.prefixes.RefPrefixes.TheVariants as requested
+use Rattle.gix_refspec.proofs.facts.AskedFacts.{lists_at_brackets, lists_of_specs, requested as of_group}
+use Rattle.gix_refspec_match.proofs.facts.RedundantFacts.{first_left}
+use Rattle.gix_refspec_text.proofs.facts.FaultFacts.{begins_not}
 use Rattle.gix_refspec_text.proofs.lemmas.prefixes.PrefixLemmas.{one_asked}
 use Rattle.gix_refspec_text.proofs.facts.FitFacts.{every, no_dev, other_byte}
 use Rattle.gix_refspec_text.proofs.facts.ManualFacts.{other_length}
@@ -13,8 +17,9 @@ use Rattle.refspec_json.specs.Objects.{line_of, prefix_object}
 use Rattle.refspec_io.specs.declared.call.Form.TheVariants as form
 use Rattle.refspec_commands.specs.declared.prefixes.answer.Answer.TheVariants as answer
 use Rattle.refspec_commands.specs.declared.prefixes.report.Notation.TheVariants as notation
-use Rattle.refspec_commands.specs.Prefixes.{AddsAll, AddsList, AddsNothing, AddsPrefixes, AreOthers, AreReasons}
-use Rattle.refspec_commands.specs.Prefixes.{ListsAsked, TakesWhole, argument, asked_object, request}
+use Rattle.refspec_commands.specs.Prefixes.{AddsAll, AddsNothing, AddsPrefixes, AddsRequests, AddsTooMany, AddsWhole}
+use Rattle.refspec_commands.specs.Prefixes.{AnswersFor, AreOthers, AreReasons, IsReason, TakesWhole, argument}
+use Rattle.refspec_commands.specs.Prefixes.{asked_object, request}
 use Rattle.bstr.specs.Owned.{bstring_bytes}
 use Rattle.bstr.specs.declared.bstring.BString.{BString}
 use Rattle.gix_refspec_text.specs.declared.spec.RefSpecRef.{RefSpecRef}
@@ -33,7 +38,9 @@ pub words : AddsAll notation.Argument form.Lines [] (codes "a\n") (codes "a\n(al
     × AddsAll notation.Pattern form.Lines [] [] (codes "*\n") × AddsAll notation.Pattern form.Zeros [] []
     (codes "*" ++ 0 ∷ [])
     × AddsNothing form.Lines (codes "a\n") (codes "a\n(nothing)\n") × AddsNothing form.Zeros [] []
-words = (refl, refl, refl, refl, refl, refl)
+    × AddsTooMany notation.Argument form.Lines (codes "a\n") (codes "a\n(all)\n")
+    × AddsTooMany notation.Pattern form.Zeros [] (codes "*" ++ 0 ∷ [])
+words = (refl, refl, refl, refl, refl, refl, refl, refl)
 
 -- neither stands for the other
 pub other_words : ¬ (AddsAll notation.Argument form.Lines [] [] (codes "(nothing)\n"))
@@ -47,25 +54,23 @@ other_words = (
 )
 
 -- a line for each prefix, with the name of its argument or a star; records don't have the name
-pub listed : AddsList notation.Argument form.Lines (codes "refs/heads/" ∷ codes "HEAD" ∷ []) []
+pub listed : AddsRequests notation.Argument form.Lines (codes "refs/heads/" ∷ codes "HEAD" ∷ []) []
     (codes "ref-prefix refs/heads/\nref-prefix HEAD\n")
-    × AddsList notation.Pattern form.Lines (codes "refs/heads/" ∷ []) [] (codes "refs/heads/*\n")
-    × AddsList notation.Argument form.Zeros (codes "refs/heads/" ∷ []) [] (codes "refs/heads/" ++ 0 ∷ [])
-    × AddsList notation.Pattern form.Zeros (codes "refs/heads/" ∷ []) [] (codes "refs/heads/*" ++ 0 ∷ [])
-    × AddsList notation.Argument form.Lines [] [] (codes "(nothing)\n")
+    × AddsRequests notation.Pattern form.Lines (codes "refs/heads/" ∷ []) [] (codes "refs/heads/*\n")
+    × AddsRequests notation.Argument form.Zeros (codes "refs/heads/" ∷ []) [] (codes "refs/heads/" ++ 0 ∷ [])
+    × AddsRequests notation.Pattern form.Zeros (codes "refs/heads/" ∷ []) [] (codes "refs/heads/*" ++ 0 ∷ [])
 listed = (
   (_, (codes "refs/heads/", codes "ref-prefix HEAD\n", inl refl, (codes "HEAD", [], inl refl, refl, refl), refl), refl),
   (_, (codes "refs/heads/*", [], inl refl, refl, refl), refl),
   refl,
   refl,
-  refl,
 )
 
 -- a list isn't reported as no request, nor a prefix without the name of its argument, nor a pattern with it
-pub not_listed : ¬ (AddsList notation.Argument form.Lines (codes "refs/heads/" ∷ []) [] (codes "(nothing)\n"))
-    × ¬ (AddsList notation.Argument form.Lines (codes "refs/heads/" ∷ []) [] (codes "refs/heads/\n"))
-    × ¬ (AddsList notation.Pattern form.Lines (codes "refs/heads/" ∷ []) [] (codes "ref-prefix refs/heads/*\n"))
-    × ¬ (AddsList notation.Argument form.Zeros (codes "refs/heads/" ∷ []) [] [])
+pub not_listed : ¬ (AddsRequests notation.Argument form.Lines (codes "refs/heads/" ∷ []) [] (codes "(nothing)\n"))
+    × ¬ (AddsRequests notation.Argument form.Lines (codes "refs/heads/" ∷ []) [] (codes "refs/heads/\n"))
+    × ¬ (AddsRequests notation.Pattern form.Lines (codes "refs/heads/" ∷ []) [] (codes "ref-prefix refs/heads/*\n"))
+    × ¬ (AddsRequests notation.Argument form.Zeros (codes "refs/heads/" ∷ []) [] [])
 not_listed = (
   (λ adds. other_byte 0 (codes "(nothing)\n") (codes "ref-prefix " ++ _) (λ byte. omega (arith, byte)) (adds.2
       ∙ adds.1.4)),
@@ -75,7 +80,8 @@ not_listed = (
   λ same. omega (arith, ap length same),
 )
   where
-    starred : ¬ (AddsList notation.Pattern form.Lines (codes "refs/heads/" ∷ []) [] (codes "ref-prefix refs/heads/*\n"))
+    starred : ¬ (AddsRequests notation.Pattern form.Lines (codes "refs/heads/" ∷ []) []
+        (codes "ref-prefix refs/heads/*\n"))
     starred (lines, (shown, rest, inl is, none, all), same) =
         other_byte 3 (codes "ref-prefix refs/heads/*\n") (codes "refs/heads/*" ++ (10 ∷ rest)) (λ byte. omega (
           arith,
@@ -134,111 +140,111 @@ others = (
     kept (inr (other, (rest, none, same))) = other wholes.0
 
 -- the specs without a list are the reason, in order, and no others
-of_branches : ListsGroup (every ∷ []) (codes "refs/heads/" ∷ [])
-of_branches = (codes "refs/heads/" ∷ [], [], lists_of_specs.0, refl, refl)
+bracket_alone : IsReason by_bracket
+bracket_alone = inl (0, by_bracket, omega arith, refl, unlisted)
 
-bracket_alone : HasNoList (by_bracket ∷ [])
-bracket_alone = (0, by_bracket, omega arith, refl, unlisted)
+-- a list isn't all refs
+not_all : (list : Vec BString Global) → requested.Listed list ≢ requested.All
+not_all list same = cc
 
-pub reasons : AreReasons (every ∷ by_bracket ∷ []) (by_bracket ∷ []) × ¬ (AreReasons (by_bracket ∷ []) [])
+pub reasons : (list : Vec BString Global) → map bstring_bytes list.items ≡ codes "refs/heads/" ∷ []
+    → AreReasons (every ∷ by_bracket ∷ []) (by_bracket ∷ []) × ¬ (AreReasons (by_bracket ∷ []) [])
     × ¬ (AreReasons (every ∷ []) (every ∷ []))
-reasons = (
-  inr ((codes "refs/heads/" ∷ [], of_branches), inl (bracket_alone, ([], refl, refl))),
+reasons list one = (
+  inr ((requested.Listed list, (of_group list one).1, not_all list), inl (bracket_alone, ([], refl, refl))),
   lost,
   needless,
 )
   where
+    only_all : (asked : RefPrefixes) → Requests (by_bracket ∷ []) asked → asked ≡ requested.All
+    only_all requested.Nothing is = absurd (unlisted is.1.0 is.1.2)
+    only_all (requested.Listed l) is = absurd (unlisted is.0.1.0 is.0.1.2)
+    only_all requested.All is = refl
+
     lost : ¬ (AreReasons (by_bracket ∷ []) [])
     lost (inl (without, (rest, none, same))) = omega (arith, ap length same)
-    lost (inr ((list, lists), none)) = unlisted lists.0 lists.2
+    lost (inr ((asked, some, other), none)) = other (only_all asked some)
 
     needless : ¬ (AreReasons (every ∷ []) (every ∷ []))
-    needless (inl (without, more)) = none_for_all.1 without
+    needless (inl (without, more)) = (of_group list one).4 without
     needless (inr (listed, none)) = omega (arith, ap length none)
 
 -- the prefixes of a group, all refs if no list is safe, and no request for negative specs
-pub reported : (prefixes empty : Vec BString Global) (why : Vec RefSpecRef Global)
-    → map bstring_bytes prefixes.items ≡ codes "refs/" ∷ codes "refs/heads/" ∷ [] → map bstring_bytes empty.items ≡ []
-    → map reading_of why.items ≡ by_bracket ∷ []
-    → AddsPrefixes notation.Argument form.Lines (every ∷ all_refs ∷ no_dev ∷ []) []
-    (codes "ref-prefix refs/\nref-prefix refs/heads/\n")
+pub reported : (prefixes : Vec BString Global) (why : Vec RefSpecRef Global)
+    → map bstring_bytes prefixes.items ≡ codes "refs/" ∷ [] → map reading_of why.items ≡ by_bracket ∷ []
+    → AreReasons (every ∷ by_bracket ∷ []) (by_bracket ∷ [])
+    → AddsPrefixes notation.Argument form.Lines (every ∷ all_refs ∷ no_dev ∷ []) [] (codes "ref-prefix refs/\n")
     × AddsPrefixes notation.Pattern form.Lines (every ∷ by_bracket ∷ []) [] (codes "*\n")
     × AddsPrefixes notation.Argument form.Lines (no_dev ∷ []) [] (codes "(nothing)\n")
-reported prefixes empty why two none one = (
+reported prefixes why one one_why are = (
   (
     answer.Listed prefixes,
-    (
-      every ∷ no_dev ∷ [],
-      others.0,
-      subst (ListsAsked (every ∷ all_refs ∷ no_dev ∷ []) (every ∷ no_dev ∷ [])) (sym two) (record {
-        has_whole = true;
-        own = codes "refs/heads/" ∷ [];
-        whole = λ same. omega (arith, ap length same);
-        lists = (codes "refs/heads/" ∷ [], [], lists_of_specs.0, ([], [], lists_of_specs.1, refl, refl), refl);
-        is = refl;
-      }),
-    ),
-    subst (λ l. AddsList notation.Argument form.Lines l [] (codes "ref-prefix refs/\nref-prefix refs/heads/\n"))
-        (sym two) (
-          _,
-          (
-            codes "refs/",
-            codes "ref-prefix refs/heads/\n",
-            inl refl,
-            (codes "refs/heads/", [], inl refl, refl, refl),
-            refl,
-          ),
-          refl,
+    record {
+      others = every ∷ no_dev ∷ [];
+      are = others.0;
+      whole = codes "refs/" ∷ [];
+      is_whole = inl ((λ same. omega (arith, ap length same)), refl);
+      answers = (
+        subst (ListsBeside (codes "refs/" ∷ []) (every ∷ no_dev ∷ [])) (sym one) (
+          codes "refs/heads/" ∷ [],
+          (codes "refs/heads/" ∷ [], [], lists_of_specs.0, ([], [], lists_of_specs.1, refl, refl), refl),
+          first_left (codes "refs/") (codes "refs/heads/") (record { after = codes "heads/"; here = refl })
+              (λ begins. absurd (begins_not (codes "refs/heads/") (codes "refs/") refl begins)),
         ),
+        (λ none. omega (arith, ap length (sym one ∙ ap (map bstring_bytes) none))),
+        subst CanBeSent (sym one) (record { few = omega arith; short = (omega arith, tt) }),
+      );
+    },
+    subst (λ l. AddsRequests notation.Argument form.Lines l [] (codes "ref-prefix refs/\n")) (sym one)
+        (_, (codes "refs/", [], inl refl, refl, refl), refl),
   ),
   (
     answer.All why,
-    (
-      every ∷ by_bracket ∷ [],
-      inr (wholes.1, (by_bracket ∷ [], inr (wholes.3, ([], refl, refl)), refl)),
-      no_list,
-      subst (AreReasons (every ∷ by_bracket ∷ [])) (sym one) reasons.0,
-    ),
-    refl,
+    record {
+      others = every ∷ by_bracket ∷ [];
+      are = inr (wholes.1, (by_bracket ∷ [], inr (wholes.3, ([], refl, refl)), refl));
+      whole = [];
+      is_whole = inr (refl, refl);
+      answers = (inl no_list, subst (AreReasons (every ∷ by_bracket ∷ [])) (sym one_why) are);
+    },
+    subst (λ g. AddsWhole notation.Pattern form.Lines g [] (codes "*\n")) (sym one_why) refl,
   ),
   (
-    answer.Listed empty,
-    (
-      no_dev ∷ [],
-      inr (wholes.2, ([], refl, refl)),
-      subst (ListsAsked (no_dev ∷ []) (no_dev ∷ [])) (sym none) (record {
-        has_whole = false;
-        own = [];
-        whole = refl;
-        lists = ([], [], lists_of_specs.1, refl, refl);
-        is = refl;
-      }),
-    ),
-    subst (λ l. AddsList notation.Argument form.Lines l [] (codes "(nothing)\n")) (sym none) refl,
+    answer.Nothing,
+    record {
+      others = no_dev ∷ [];
+      are = inr (wholes.2, ([], refl, refl));
+      whole = [];
+      is_whole = inr (refl, refl);
+      answers = ([], ([], [], lists_of_specs.1, refl, refl), record { are = refl; begin = tt });
+    },
+    refl,
   ),
 )
 
--- a list isn't reported as all refs, nor all refs as no request
-pub not_reported : ¬ (AddsPrefixes notation.Argument form.Lines (every ∷ []) [] (codes "(all)\n"))
-    × ¬ (AddsPrefixes notation.Argument form.Lines (by_bracket ∷ []) [] (codes "(nothing)\n"))
-not_reported = (listed_as_all, all_as_nothing)
+-- all refs aren't reported as no request, and aren't the answer for branches
+pub not_reported : (list : Vec BString Global) → map bstring_bytes list.items ≡ codes "refs/heads/" ∷ []
+    → ¬ (AddsPrefixes notation.Argument form.Lines (by_bracket ∷ []) [] (codes "(nothing)\n"))
+    × ((why : Vec RefSpecRef Global) → ¬ (AnswersFor [] (every ∷ []) (answer.All why)))
+not_reported list one = (all_as_nothing, λ why asked. (of_group list one).4 asked.0)
   where
-    no_list_of : (list : List (List ℕ)) → ¬ (AddsList notation.Argument form.Lines list [] (codes "(all)\n"))
-    no_list_of [] adds = other_words.2 adds
-    no_list_of (p ∷ list) adds =
-        other_byte 0 (codes "(all)\n") (codes "ref-prefix " ++ _) (λ byte. omega (arith, byte)) (adds.2 ∙ adds.1.4)
+    none_listed : (h : List Reading) (l : List (List ℕ)) → AreOthers (by_bracket ∷ []) h
+        → ¬ (ListsGroup h l)
+    none_listed h l (inl (takes, none)) lists = wholes.3 takes
+    none_listed h l (inr (other, (rest, empty, same))) lists =
+        let moved = subst (λ (g : List Reading). ListsGroup g l)
+        (same ∙ ap (λ (g : List Reading). by_bracket ∷ g) empty)
+        lists in unlisted moved.0 moved.2
 
-    listed_as_all : ¬ (AddsPrefixes notation.Argument form.Lines (every ∷ []) [] (codes "(all)\n"))
-    listed_as_all (answer.Listed list, asked, adds) = no_list_of (map bstring_bytes list.items) adds
-    listed_as_all (answer.All why, (kept, inl (takes, empty), none, are), adds) = wholes.1 takes
-    listed_as_all (answer.All why, (kept, inr (other, (rest, empty, same)), none, are), adds) =
-        none_for_all.1 (subst HasNoList (same ∙ ap (λ (l : List Reading). every ∷ l) empty) none)
+    all_words : (g : List Reading) → ¬ (AddsWhole notation.Argument form.Lines g [] (codes "(nothing)\n"))
+    all_words [] adds = other_words.0 adds
+    all_words (r ∷ g) adds = other_words.0 adds
 
     all_as_nothing : ¬ (AddsPrefixes notation.Argument form.Lines (by_bracket ∷ []) [] (codes "(nothing)\n"))
-    all_as_nothing (answer.Listed list, (kept, inl (takes, empty), asked), adds) = wholes.3 takes
-    all_as_nothing (answer.Listed list, (kept, inr (other, (rest, empty, same)), asked), adds) =
-        let lists = subst (λ (l : List Reading). ListsGroup l asked.own) same asked.lists in unlisted lists.0 lists.2
-    all_as_nothing (answer.All why, asked, adds) = other_words.0 adds
+    all_as_nothing (answer.Nothing, asked, adds) = none_listed asked.others asked.answers.0 asked.are asked.answers.1
+    all_as_nothing (answer.Listed l, asked, adds) = none_listed asked.others asked.answers.0.0 asked.are
+        asked.answers.0.1
+    all_as_nothing (answer.All why, asked, adds) = all_words (map reading_of why.items) adds
 
 -- a prefix as an object, with the pattern of the names that begin with it
 pub object : asked_object (codes "refs/") ≡ line_of (prefix_object (codes "refs/") (codes "refs/*"))

@@ -1,20 +1,24 @@
 //! Which refs to request from a server.
 
-ghost use Rattle.std.specs.Prelude.{◌∷◌, [], List, map, IfOk, MatchBool, ℕ};
-ghost use Rattle.gix_refspec.specs.Matching.Asked.{HasNoList, ListsGroup};
+ghost use Rattle.std.specs.Prelude.{map, IfOk, MatchBool};
+ghost use Rattle.bstr.specs.Owned.{bstring_bytes};
 ghost use Rattle.gix_refspec.specs.Views.Spec.{reading_of};
-ghost use Rattle.refspec_commands.specs.Prefixes.{AreOthers, AreReasons, IsAnswer, TakesWhole};
+ghost use Rattle.refspec_commands.specs.Prefixes.{AreOthers, AreReasons, CanBeListed, IsAnswer, IsReason, IsWhole, TakesWhole};
 
 use bstr::BString;
+use gix_refspec::match_group::RefPrefixes;
 use gix_refspec::{MatchGroup, RefSpecRef};
 use std::alloc::{AllocError, Global};
 
 /// What to request for specs.
 #[derive(Debug, Drop)]
 pub enum Answer<'a> {
-    /// The refs with these prefixes, in order. Without any, no request is needed.
+    /// No request is needed.
+    Nothing,
+    /// The refs with these prefixes, in order, of which none begins with another one.
     Listed(Vec<BString>),
-    /// All refs, as no list of prefixes is safe for these specs.
+    /// All refs. These specs are the reason: none of them has a list that can be sent. Without such specs, all together
+    /// have too many prefixes.
     All(Vec<RefSpecRef<'a>>),
 }
 
@@ -23,18 +27,30 @@ pub fn answer_to<'a>(alloc: Global, specs: &[RefSpecRef<'a>]) -> Result<Answer<'
     ensures { IfOk result (IsAnswer (map reading_of specs.now)) }
 {
     let others = others_of(alloc, specs)?;
-    let mut list = Vec::new(alloc);
-    if others.len() < specs.len() {
-        list.push(BString::from_slice(alloc, b"refs/")?)?;
-    }
+    let whole = whole_of(alloc, specs, others.as_slice())?;
     let group = MatchGroup { specs: others };
-    match group.ref_prefixes(alloc)? {
-        None => Ok(Answer::All(reasons_among(alloc, group.specs.as_slice())?)),
-        Some(mut own) => {
-            list.append(&mut own)?;
-            Ok(Answer::Listed(list))
-        }
+    match group.ref_prefixes_beside(alloc, whole)? {
+        RefPrefixes::Nothing => Ok(Answer::Nothing),
+        RefPrefixes::Listed(list) => Ok(Answer::Listed(list)),
+        RefPrefixes::All => Ok(Answer::All(reasons_among(alloc, group.specs.as_slice())?)),
     }
+}
+
+// `refs/`, if not all specs are among the others, and otherwise nothing.
+fn whole_of(
+    alloc: Global,
+    specs: &[RefSpecRef<'_>],
+    others: &[RefSpecRef<'_>],
+) -> Result<Vec<BString>, AllocError>
+    requires { AreOthers (map reading_of specs.now) (map reading_of others.now) }
+    ensures { IfOk result (λ whole. IsWhole (map reading_of specs.now)
+        (map reading_of others.now) (map bstring_bytes whole.items)) }
+{
+    let mut whole = Vec::new(alloc);
+    if others.len() < specs.len() {
+        whole.push(BString::from_slice(alloc, b"refs/")?)?;
+    }
+    Ok(whole)
 }
 
 // The specs, in order, except positive ones with a star right after `refs/`: for those Git requests `refs/`
@@ -66,7 +82,7 @@ fn takes_whole(spec: &RefSpecRef<'_>) -> bool
     }
 }
 
-// The specs for which no list is safe, in order.
+// The specs without a list that can be sent, in order.
 fn reasons_among<'a>(
     alloc: Global,
     specs: &[RefSpecRef<'a>],
@@ -83,12 +99,15 @@ fn reasons_among<'a>(
     Ok(reasons)
 }
 
-// Whether no list is safe for a spec.
+// Whether a spec alone has no list that can be sent.
 fn is_reason(alloc: Global, spec: &RefSpecRef<'_>) -> Result<bool, AllocError>
-    ensures { IfOk result (λ is. MatchBool is (HasNoList (reading_of spec.now ∷ []))
-        ((list : List (List ℕ)) × ListsGroup (reading_of spec.now ∷ []) list)) }
+    ensures { IfOk result (λ is. MatchBool is
+        (IsReason (reading_of spec.now)) (CanBeListed (reading_of spec.now))) }
 {
     let specs = Vec::from_slice(alloc, &[*spec])?;
     let group = MatchGroup { specs };
-    Ok(group.ref_prefixes(alloc)?.is_none())
+    match group.ref_prefixes(alloc)? {
+        RefPrefixes::All => Ok(true),
+        _ => Ok(false),
+    }
 }

@@ -3,11 +3,11 @@
 ghost use Rattle.std.specs.Prelude.{◌≡◌, ◌++◌, ◌∷◌, [], List, codes, map, OnOk, ℕ};
 ghost use Rattle.bstr.specs.Owned.{bstring_bytes};
 ghost use Rattle.gix_refspec.specs.Views.Spec.{reading_of};
-ghost use Rattle.refspec_json.specs.Objects.{line_of, noted_object};
+ghost use Rattle.refspec_json.specs.Objects.{all_object, line_of, noted_object};
 ghost use Rattle.refspec_io.specs.declared.call.Form.TheVariants as form;
 ghost use Rattle.refspec_io.specs.Json.{AddsObjects, json_text};
 ghost use Rattle.refspec_commands.specs.declared.prefixes.report.Notation.TheVariants as notation;
-ghost use Rattle.refspec_commands.specs.Prefixes.{AddsAll, AddsAnswer, AddsList, AddsNothing, AddsRequests, IsReasonObject, asked_object, request};
+ghost use Rattle.refspec_commands.specs.Prefixes.{AddsAll, AddsAnswer, AddsNothing, AddsRequests, AddsTooMany, AddsWhole, IsReasonObject, asked_object, request};
 
 use crate::prefixes::answer::Answer;
 use bstr::BString;
@@ -39,25 +39,10 @@ pub fn report_answer(
         report.old.results.items report.new.results.items) }
 {
     match answer {
-        Answer::Listed(prefixes) => report_list(alloc, notation, prefixes.as_slice(), report),
-        Answer::All(reasons) => report_all(alloc, notation, reasons.as_slice(), report),
+        Answer::Nothing => report_nothing(alloc, report),
+        Answer::Listed(prefixes) => report_each(alloc, notation, prefixes.as_slice(), report),
+        Answer::All(reasons) => report_whole(alloc, notation, reasons.as_slice(), report),
     }
-}
-
-// Reports prefixes, or that no request is needed.
-fn report_list(
-    alloc: Global,
-    notation: Notation,
-    prefixes: &[BString],
-    report: &mut Report,
-) -> Result<(), AllocError>
-    ensures { OnOk result (AddsList notation report.old.form (map bstring_bytes prefixes.now)
-        report.old.results.items report.new.results.items) }
-{
-    if prefixes.is_empty() {
-        return report_nothing(alloc, report);
-    }
-    report_each(alloc, notation, prefixes, report)
 }
 
 // Reports prefixes, in order.
@@ -142,8 +127,71 @@ fn write_nothing(alloc: Global, message: &str, out: &mut Vec<u8>) -> Result<(), 
     refspec_json::Nothing { message }.write_line(alloc, out)
 }
 
+// Reports that all refs must be requested, for some specs or for all together.
+fn report_whole(
+    alloc: Global,
+    notation: Notation,
+    reasons: &[RefSpecRef<'_>],
+    report: &mut Report,
+) -> Result<(), AllocError>
+    ensures { OnOk result (AddsWhole notation report.old.form (map reading_of reasons.now)
+        report.old.results.items report.new.results.items) }
+{
+    if reasons.is_empty() {
+        return report_too_many(alloc, notation, report);
+    }
+    report_all(alloc, notation, reasons, report)
+}
+
+const WHY_ALL_TOGETHER: &str =
+    "These specs have more than 65,535 prefixes, and a server ignores so many. So ask for all refs.";
+
+// Reports that all refs must be requested, as there are too many prefixes.
+fn report_too_many(alloc: Global, notation: Notation, report: &mut Report) -> Result<(), AllocError>
+    ensures { OnOk result (AddsTooMany notation report.old.form
+        report.old.results.items report.new.results.items) }
+{
+    write_all(notation, report)?;
+    match report.form {
+        Form::Json => write_too_many(alloc, WHY_ALL_TOGETHER, &mut report.results),
+        Form::Lines | Form::Zeros => {
+            report
+                .messages
+                .extend_from_slice(WHY_ALL_TOGETHER.as_bytes())?;
+            report.messages.push(b'\n')?;
+            Ok(())
+        }
+    }
+}
+
+// Appends the object that says so in a sentence, as a line.
+fn write_too_many(alloc: Global, message: &str, out: &mut Vec<u8>) -> Result<(), AllocError>
+    ensures { OnOk result ((message : List ℕ) ×
+        (out.new.items ≡ out.old.items ++ line_of (all_object message))) }
+{
+    refspec_json::AllTogether { message }.write_line(alloc, out)
+}
+
 const WHY_ALL: &str =
     "No safe prefix is known for this spec: its star is outside refs/, or after a ]. So ask for all refs.";
+
+const WHY_LONG: &str =
+    "No prefix of this spec fits into a packet line, of 65,516 bytes. So ask for all refs.";
+
+// The most that fits behind `ref-prefix `.
+const LONGEST_PREFIX: usize = 65_505;
+
+// Why a spec has no list that can be sent.
+fn why_all(spec: &RefSpecRef<'_>) -> &'static str {
+    let source = match spec.source() {
+        Some(source) => source.as_bytes(),
+        None => b"",
+    };
+    match source.iter().position(|byte| *byte == b'*') {
+        Some(before) if before <= LONGEST_PREFIX => WHY_ALL,
+        _ => WHY_LONG,
+    }
+}
 
 // Reports that all refs must be requested, and for which specs.
 fn report_all(
@@ -192,11 +240,16 @@ fn report_reason(
 {
     let canonical = spec.to_bstring(alloc)?;
     match report.form {
-        Form::Json => write_reason(alloc, canonical.as_bytes(), WHY_ALL, &mut report.results),
+        Form::Json => write_reason(
+            alloc,
+            canonical.as_bytes(),
+            why_all(spec),
+            &mut report.results,
+        ),
         Form::Lines | Form::Zeros => {
             write_quoted(&mut report.messages, canonical.as_bytes())?;
             report.messages.extend_from_slice(b": ")?;
-            report.messages.extend_from_slice(WHY_ALL.as_bytes())?;
+            report.messages.extend_from_slice(why_all(spec).as_bytes())?;
             report.messages.push(b'\n')?;
             Ok(())
         }

@@ -5,7 +5,7 @@ use Rattle.serde_json.proofs.OnLiterals.{serde_json_on_literals}
 use Rattle.refspec_json.specs.Objects.{line_of, refused_object, spec_object, mapping_object, remote_mapping_object}
 use Rattle.refspec_json.specs.Objects.{overruled_object, left_out_object, conflict_object, missing_object, stale_object}
 use Rattle.refspec_json.specs.Objects.{kept_object, malformed_object, untracked_object, ambiguous_object}
-use Rattle.refspec_json.specs.Objects.{line_with_remote, prefix_object, noted_object, nothing_object}
+use Rattle.refspec_json.specs.Objects.{all_object, line_with_remote, prefix_object, noted_object, nothing_object}
 use Rattle.refspec_json.specs.Objects.{upstream_object, no_upstream_object, prefetch_object, ignored_object}
 use Rattle.refspec_json.specs.Objects.{renamed_object, unchanged_object, fate_object, not_fetched_object}
 
@@ -169,3 +169,7 @@ pub fate : (line_of (fate_object (codes "s") (codes "n") (Some (codes "d")) (cod
     ≡ codes "{\"advice\":\"d\",\"kind\":\"not_fetched\",\"message\":\"m\",\"name\":\"n\"}" ++ 10 ∷ [])
 unfolding serde_json_on_literals
 fate = (refl, refl)
+
+pub all : line_of (all_object (codes "m")) ≡ codes "{\"kind\":\"all\",\"message\":\"m\"}" ++ 10 ∷ []
+unfolding serde_json_on_literals
+all = refl
