@@ -382,6 +382,11 @@ def stale(specs, remote, local):
 
 # Ref prefixes
 
+# A server ignores them if there are more, and what fits into a packet line behind `ref-prefix `.
+MOST_PREFIXES = 65535
+LONGEST_PREFIX = 65505
+
+
 def prefixes(specs):
     """The ref prefixes to send to a server; None if only a request for all refs is safe."""
     found = []
@@ -395,7 +400,18 @@ def prefixes(specs):
             found.append(spec.source)
         elif not is_id(spec.source):
             found += candidates(spec.source)
-    return found
+    found = shortest(found)
+    return found if len(found) <= MOST_PREFIXES and all(len(one) <= LONGEST_PREFIX for one in found) else None
+
+
+def shortest(prefixes):
+    """Those that don't begin with another one, each once and in order. In the order of their bytes, what begins with one follows it."""
+    needed, last = set(), None
+    for one in sorted(prefixes):
+        if last is None or not one.startswith(last):
+            needed.add(one)
+            last = one
+    return [one for one in dict.fromkeys(prefixes) if one in needed]
 
 
 # Upstreams
@@ -501,7 +517,7 @@ def answer_stale(specs, remote, local):
 def answer_prefixes(specs):
     found = prefixes(specs_of(specs))
     ask = "all" if found is None else "some" if found else "nothing"
-    return {"ask": ask, "prefixes": list(dict.fromkeys(found or []))}
+    return {"ask": ask, "prefixes": found or []}
 
 
 def answer_upstream(values, merge):

@@ -36,6 +36,7 @@ of_refspec() {
     try refspec/schema.py
     try library/replay_remotes.py "$refspec"
     try library/git_remotes.py
+    try library/git_prefixes.py "$refspec"
     try library/git_fates.py
 }
 

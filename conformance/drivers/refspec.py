@@ -74,7 +74,7 @@ class Refspec:
         if b"refs/" in listed:
             return None
         ask = "all" if found["all"] else "some" if listed else "nothing"
-        return {"ask": ask, "prefixes": [] if found["all"] else list(dict.fromkeys(listed))}
+        return {"ask": ask, "prefixes": [] if found["all"] else listed}
 
 
 def unquoted(value):

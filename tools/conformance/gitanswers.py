@@ -259,7 +259,7 @@ class Git(Texts):
         return (rows_cell(failed(failure)) if failure else texts_cell(sorted(deleted))), rule_of(result.kinds)
 
     def prefixes(self, answer, specs):
-        """The arguments `ref-prefix` of a fetch, each once. An empty one asks for all refs, as none does."""
+        """The arguments `ref-prefix` of a fetch that don't begin with another one. An empty one asks for all refs, as none does."""
         remote = self.remotes.store.remote(self.remotes.store.refs([b"refs/heads/main"]))
         client = self.remotes.store.repository()
         environment = {**self.remotes.store.environment, "GIT_TRACE_PACKET": "1"}
@@ -267,7 +267,7 @@ class Git(Texts):
                               cwd=self.folder, capture_output=True, check=False)
         if b"fatal: invalid refspec" in made.stderr:
             return "fails:invalid", "at-destination"
-        found = list(dict.fromkeys(re.findall(rb"fetch> ref-prefix (.*)", made.stderr)))
+        found = reference.shortest(re.findall(rb"fetch> ref-prefix (.*)", made.stderr))
         if sorted(found) == sorted(answer["prefixes"]) and answer["ask"] != "all":
             return SAME, "-"
         return texts_cell(found), prefixes_rule(specs)
