@@ -27,3 +27,4 @@ pub mod TrackLemmas
 pub mod NestLemmas
 pub mod NestFoundLemmas
 pub mod NestFreeLemmas
+pub mod AlikeLemmas

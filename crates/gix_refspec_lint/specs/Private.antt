@@ -1,4 +1,5 @@
 -- The definitions that only private functions use, for their steps.
+pub mod Alike
 pub mod Borders
 pub mod Overlaps
 pub mod Lints

@@ -12,12 +12,14 @@ ghost use Rattle.gix_refspec_match.specs.Views.Mapping.{start_of};
 ghost use Rattle.gix_refspec_lint.specs.Matching.Lint.{AreExamples, ConflictOver, IsExample, refs_of};
 ghost use Rattle.gix_refspec_plan.specs.Matching.Plan.{CanBeWritten};
 ghost use Rattle.gix_refspec.specs.Matching.RefNames.{IsValidSource};
+ghost use Rattle.gix_refspec_lint.specs.Private.Alike.{AreEarlier, AreFlags, AreIndexesOf, AreRows, CanShow, IsEarlier};
 ghost use Rattle.gix_refspec_lint.specs.Private.Lints.{HaveCommon, HaveParts, IsBounded, IsFound, IsFoundAt, IsGroupOf, NoneAt};
 ghost use Rattle.gix_refspec_lint.specs.Private.Overlaps.{IsOverlap};
 ghost use Rattle.gix_refspec_lint.specs.Private.Runs.{Fails, IsNotFetched, IsTried};
 ghost use Rattle.gix_refspec_lint.specs.Views.Lint.{example_of};
 
 use super::PossibleConflict;
+use super::alike::{Row, are_in_order, earlier_alike, have_same_sides, may_pair};
 use super::group::{
     Group, add_item, any_target, can_stand_together, makes, same_source, source_of, sources_for,
 };
@@ -35,6 +37,15 @@ use std::alloc::{AllocError, Global};
 // The texts before and after the star of a destination. `None` if it has no star, or is missing.
 pub(super) type Parts<'g> = Option<(&'g [u8], &'g [u8])>;
 
+// The words to try first, the texts around the stars of the destinations of a group, and for each spec an earlier one
+// with the same sides.
+#[derive(Clone, Copy)]
+struct Known<'k, 'p, 'w> {
+    words: &'k [BStr<'w>],
+    parts: &'k [Parts<'p>],
+    earlier: &'k [Option<usize>],
+}
+
 // The specs that can conflict, by the first and then by the second.
 pub(super) fn conflicts_in(
     alloc: Global,
@@ -45,12 +56,32 @@ pub(super) fn conflicts_in(
         AreExamples g (map example_of found.items)) }
 {
     let parts = parts_in(alloc, group.specs)?;
+    let earlier = earlier_alike(alloc, group.specs)?;
+    let known = Known {
+        words,
+        parts: parts.as_slice(),
+        earlier: earlier.as_slice(),
+    };
+    let mut rows: Vec<Vec<usize>> = Vec::with_capacity(alloc, group.specs.len())?;
     let mut found = Vec::new(alloc);
     for first in 0..group.specs.len() {
-        let mut of_first = conflicts_with(alloc, group, words, parts.as_slice(), first)?;
+        let mut of_first = conflicts_of(alloc, group, &known, rows.as_slice(), first)?;
+        let seconds = seconds_of(alloc, of_first.as_slice())?;
+        rows.push(seconds)?;
         found.append(&mut of_first)?;
     }
     Ok(found)
+}
+
+// The second specs of conflicts.
+fn seconds_of(alloc: Global, conflicts: &[PossibleConflict]) -> Result<Vec<usize>, AllocError>
+    ensures { IfOk result (λ seconds. seconds.items ≡ map (λ c. c.second_spec) conflicts.now) }
+{
+    let mut seconds = Vec::with_capacity(alloc, conflicts.len())?;
+    for conflict in conflicts {
+        seconds.push(conflict.second_spec)?;
+    }
+    Ok(seconds)
 }
 
 // The texts before and after the star of each destination. Looked for once, and not for each two specs.
@@ -67,22 +98,100 @@ pub(super) fn parts_in<'g>(
     Ok(parts)
 }
 
+// The conflicts of one spec with later ones, if it is known with which ones each before it conflicts.
+fn conflicts_of(
+    alloc: Global,
+    group: &Group<'_, '_>,
+    known: &Known<'_, '_, '_>,
+    rows: &[Vec<usize>],
+    first: usize,
+) -> Result<Vec<PossibleConflict>, AllocError>
+    requires within { first < length group.now.specs.now }
+    requires parts { length known.now.parts.now ≡ length group.now.specs.now }
+    requires long { length known.now.earlier.now ≡ length group.now.specs.now }
+    requires earlier { AreEarlier (map reading_of group.now.specs.now) known.now.earlier.now }
+    requires rows { length rows.now ≡ first }
+    ensures { (g : List Reading) → IsGroupOf g group.now → HaveParts group.now.specs.now known.now.parts.now →
+        AreRows (CanShow g) g (map (λ v. v.items) rows.now) →
+        IfOk result (λ found. IsMadeFrom (λ j q e. IsExample g first j e) 0 g (map example_of found.items)) }
+{
+    match known.earlier[first] {
+        None => conflicts_with(alloc, group, known, first),
+        Some(before) => conflicts_again(alloc, group, known, first, rows[before].as_slice()),
+    }
+}
+
 // The conflicts of one spec with later ones.
 fn conflicts_with(
     alloc: Global,
     group: &Group<'_, '_>,
-    words: &[BStr<'_>],
-    parts: &[Parts<'_>],
+    known: &Known<'_, '_, '_>,
     first: usize,
 ) -> Result<Vec<PossibleConflict>, AllocError>
-    requires { (first < length group.now.specs.now) × (length parts.now ≡ length group.now.specs.now) }
-    ensures { (g : List Reading) → IsGroupOf g group.now → HaveParts group.now.specs.now parts.now →
+    requires within { first < length group.now.specs.now }
+    requires parts { length known.now.parts.now ≡ length group.now.specs.now }
+    requires long { length known.now.earlier.now ≡ length group.now.specs.now }
+    requires earlier { AreEarlier (map reading_of group.now.specs.now) known.now.earlier.now }
+    ensures { (g : List Reading) → IsGroupOf g group.now → HaveParts group.now.specs.now known.now.parts.now →
         IfOk result (λ found. IsMadeFrom (λ j q e. IsExample g first j e) 0 g (map example_of found.items)) }
 {
     let mut found = Vec::new(alloc);
+    let mut flags = Vec::with_capacity(alloc, group.specs.len())?;
     for second in 0..group.specs.len() {
-        if first < second {
-            if let Some(conflict) = conflict_between(alloc, group, words, parts, first, second)? {
+        let row = Row {
+            first,
+            flags: flags.as_slice(),
+        };
+        let conflict = conflict_if_new(alloc, group, known, &row, second)?;
+        flags.push(conflict.is_some())?;
+        if let Some(conflict) = conflict {
+            found.push(conflict)?;
+        }
+    }
+    Ok(found)
+}
+
+// An example of a conflict of two specs, unless the flags say that there is none.
+fn conflict_if_new(
+    alloc: Global,
+    group: &Group<'_, '_>,
+    known: &Known<'_, '_, '_>,
+    row: &Row<'_>,
+    second: usize,
+) -> Result<Option<PossibleConflict>, AllocError>
+    requires within { second < length group.now.specs.now }
+    requires parts { length known.now.parts.now ≡ length group.now.specs.now }
+    requires long { length known.now.earlier.now ≡ length group.now.specs.now }
+    requires earlier { AreEarlier (map reading_of group.now.specs.now) known.now.earlier.now }
+    requires flags { length row.now.flags.now ≡ second }
+    ensures { (g : List Reading) → IsGroupOf g group.now → HaveParts group.now.specs.now known.now.parts.now →
+        AreFlags (CanShow g row.now.first) row.now.first row.now.flags.now →
+        IfOk result (λ found. IsFound g row.now.first second (option_map example_of found)) }
+{
+    if may_pair(known.earlier, row, second) {
+        return conflict_between(alloc, group, known, row.first, second);
+    }
+    Ok(None)
+}
+
+// Those of a spec behind one with the same sides, which conflicts with the specs at these indexes.
+fn conflicts_again(
+    alloc: Global,
+    group: &Group<'_, '_>,
+    known: &Known<'_, '_, '_>,
+    first: usize,
+    seconds: &[usize],
+) -> Result<Vec<PossibleConflict>, AllocError>
+    requires within { first < length group.now.specs.now }
+    requires parts { length known.now.parts.now ≡ length group.now.specs.now }
+    ensures { (g : List Reading) → IsGroupOf g group.now → HaveParts group.now.specs.now known.now.parts.now →
+        (p : ℕ) → IsEarlier (map reading_of group.now.specs.now) first p → AreIndexesOf (CanShow g p) g seconds.now →
+        IfOk result (λ found. IsMadeFrom (λ j q e. IsExample g first j e) 0 g (map example_of found.items)) }
+{
+    let mut found = Vec::new(alloc);
+    for second in seconds {
+        if are_in_order(first, *second, group.specs.len()) {
+            if let Some(conflict) = conflict_between(alloc, group, known, first, *second)? {
                 found.push(conflict)?;
             }
         }
@@ -94,13 +203,13 @@ fn conflicts_with(
 fn conflict_between(
     alloc: Global,
     group: &Group<'_, '_>,
-    words: &[BStr<'_>],
-    parts: &[Parts<'_>],
+    known: &Known<'_, '_, '_>,
     first: usize,
     second: usize,
 ) -> Result<Option<PossibleConflict>, AllocError>
-    requires { (first < second) × (second < length group.now.specs.now) × (length parts.now ≡ length group.now.specs.now) }
-    ensures { (g : List Reading) → IsGroupOf g group.now → HaveParts group.now.specs.now parts.now →
+    requires { (first < second) × (second < length group.now.specs.now)
+        × (length known.now.parts.now ≡ length group.now.specs.now) }
+    ensures { (g : List Reading) → IsGroupOf g group.now → HaveParts group.now.specs.now known.now.parts.now →
         IfOk result (λ found. IsFound g first second (option_map example_of found)) }
 {
     let Some(one_name) = group.specs[first].destination() else {
@@ -109,7 +218,7 @@ fn conflict_between(
     let Some(other_name) = group.specs[second].destination() else {
         return Ok(None);
     };
-    match (parts[first], parts[second]) {
+    match (known.parts[first], known.parts[second]) {
         (None, None) => {
             if one_name != other_name {
                 return Ok(None);
@@ -124,18 +233,10 @@ fn conflict_between(
                 if have_same_sides(&group.specs[first], &group.specs[second]) {
                     return Ok(None);
                 }
-                conflict_among(alloc, group, words, first, second, &common)
+                conflict_among(alloc, group, known.words, first, second, &common)
             }
         },
     }
-}
-
-// Whether two specs have the same source and the same destination: then they map alike.
-pub(super) fn have_same_sides(one: &RefSpecRef<'_>, other: &RefSpecRef<'_>) -> bool
-    ensures { IsTrue result → ((reading_of one.now).source ≡ (reading_of other.now).source)
-        × ((reading_of one.now).destination ≡ (reading_of other.now).destination) }
-{
-    one.source() == other.source() && one.destination() == other.destination()
 }
 
 // The same of two patterns: with one of the words to try first, or at one of the names that decide.

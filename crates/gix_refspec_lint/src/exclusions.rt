@@ -1,6 +1,7 @@
 //! Negative specs that exclude nothing.
 
-ghost use Rattle.std.specs.Prelude.{◌≡◌, ◌↔◌, ◌≤◌, ◌∷◌, ◌++◌, [], List, ℕ, Option, Some, drop, map, option_map, IfOk, IsTrue, MatchBool, OnOk};
+ghost use Rattle.std.specs.Prelude.{◌≡◌, ◌↔◌, ◌<◌, ◌≤◌, ◌∷◌, ◌++◌, [], List, ℕ, Option, Some, drop, length, map};
+ghost use Rattle.std.specs.Prelude.{option_map, IfOk, IfSome, IsTrue, MatchBool, OnOk};
 ghost use Rattle.bstr.specs.BStr.{bstr_bytes};
 ghost use Rattle.bstr.specs.Owned.{bstring_bytes};
 ghost use Rattle.std.specs.List.{Any};
@@ -9,11 +10,13 @@ ghost use Rattle.gix_refspec_text.specs.Views.Spec.{reading_of};
 ghost use Rattle.gix_refspec_match.specs.Matching.Mappings.{IsSourceExcluded, name};
 ghost use Rattle.gix_refspec_match.specs.Views.Mapping.{start_of};
 ghost use Rattle.gix_refspec_lint.specs.Matching.Lint.{AreIdleExclusions, IsIdleExclusion, merged_text, refs_of};
+ghost use Rattle.gix_refspec_lint.specs.Private.Alike.{TellsIdle};
 ghost use Rattle.gix_refspec_lint.specs.Private.Idles.{AddsMergedRefs, AreMergedRefs, ExcludesFrom, ExcludesSome, HasPlainSource, MakesSoundly, ShareSources};
 ghost use Rattle.gix_refspec_lint.specs.Private.Lints.{IsBounded, IsGroupOf};
 ghost use Rattle.gix_refspec_lint.specs.Private.Overlaps.{IsOverlap};
 ghost use Rattle.gix_refspec_lint.specs.Private.Runs.{IsUnsound};
 
+use super::alike::{earlier_alike, flag_before};
 use super::group::{Group, add_item, any_target, destination_of, named_sources, source_named};
 use super::required::valid_names;
 use super::runs::{Of, Run, Why};
@@ -40,13 +43,38 @@ pub(super) fn idle_exclusions_in(
         AreIdleExclusions g (map bstr_bytes merges.now) idle.items) }
 {
     let merged = merged_refs(alloc, merges)?;
+    let earlier = earlier_alike(alloc, group.specs)?;
+    let mut flags = Vec::with_capacity(alloc, group.specs.len())?;
     let mut idle = Vec::new(alloc);
-    for (index, spec) in group.specs.iter().enumerate() {
-        if is_idle(alloc, group, merged.as_slice(), spec)? {
+    for index in 0..group.specs.len() {
+        let before = flag_before(earlier[index], flags.as_slice());
+        let excludes_none = is_idle_at(alloc, group, merged.as_slice(), index, before)?;
+        flags.push(excludes_none)?;
+        if excludes_none {
             idle.push(index)?;
         }
     }
     Ok(idle)
+}
+
+// Whether the spec at an index is negative and excludes nothing, unless an earlier one with the same sides tells.
+fn is_idle_at(
+    alloc: Global,
+    group: &Group<'_, '_>,
+    merged: &[Source],
+    index: usize,
+    before: Option<bool>,
+) -> Result<bool, AllocError>
+    requires { index < length group.now.specs.now }
+    ensures { (g : List Reading) (merges : List (List ℕ)) → IsGroupOf g group.now →
+        AreMergedRefs merges (map start_of merged.now) → IfSome before (TellsIdle g merges
+        (map reading_of group.now.specs.now) index) →
+        IfOk result (TellsIdle g merges (map reading_of group.now.specs.now) index) }
+{
+    if let Some(is) = before {
+        return Ok(is);
+    }
+    is_idle(alloc, group, merged, &group.specs[index])
 }
 
 // The refs that a fetch may take for merged ones: the valid candidates of each value, of an empty one those of `HEAD`.

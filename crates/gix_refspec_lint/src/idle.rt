@@ -1,6 +1,7 @@
 //! Specs that never do anything.
 
-ghost use Rattle.std.specs.Prelude.{◌≡◌, ◌↔◌, ◌⊎◌, ◌++◌, ◌<◌, ◌≤◌, List, ℕ, Option, Some, length, map, option_map, IfOk, IsTrue, MatchBool, MatchOption, OnOk};
+ghost use Rattle.std.specs.Prelude.{◌≡◌, ◌≢◌, ◌↔◌, ◌⊎◌, ◌++◌, ◌<◌, ◌≤◌, List, ℕ, Option, Some, length, map, option_map};
+ghost use Rattle.std.specs.Prelude.{IfOk, IfSome, IsTrue, MatchBool, MatchOption, OnOk};
 ghost use Rattle.std.specs.List.{Contains, slice_get};
 ghost use Rattle.bstr.specs.BStr.{bstr_bytes};
 ghost use Rattle.bstr.specs.Owned.{bstring_bytes};
@@ -13,13 +14,17 @@ ghost use Rattle.gix_refspec_match.specs.Views.Mapping.{ref_of, start_of};
 ghost use Rattle.gix_refspec_lint.specs.declared.idle.Others.{Others};
 ghost use Rattle.gix_refspec.specs.Laws.Items.{HaveSameNames};
 ghost use Rattle.gix_refspec.specs.Laws.Matching.{MakesForward};
-ghost use Rattle.gix_refspec_lint.specs.Matching.Lint.{AreIdle, Maps};
+ghost use Rattle.gix_refspec_lint.specs.Matching.Lint.{AreIdle, IsDispensable, IsRequired, Maps};
 ghost use Rattle.gix_refspec.specs.Matching.RefNames.{IsRefName};
+ghost use Rattle.gix_refspec_plan.specs.Matching.Plan.{IsCompleted};
 ghost use Rattle.gix_refspec_plan.specs.Matching.Stale.{ref_named};
+ghost use Rattle.gix_refspec_lint.specs.Private.Alike.{AreReasons, IsEarlier};
 ghost use Rattle.gix_refspec_lint.specs.Private.Idles.{AreAllowed, AreFreeing, ArePreferred, AreTriedBefore, Explains, HasPlainSource, HasSourcePattern, IsCovering, IsOther, IsReasonOf, IsShown, IsWhy, IsWhyAt, IsWhyBeside};
 ghost use Rattle.gix_refspec_lint.specs.Private.Lints.{IsGroupOf};
 ghost use Rattle.gix_refspec_lint.specs.Views.Lint.{unused_of};
+ghost use Rattle.gix_refspec_lint.specs.declared.Reason.TheVariants as reasons;
 
+use super::alike::earlier_alike;
 use super::group::{Group, add_item, any_target, makes, name_of, named_sources, source_named};
 use super::required::{contains, is_required};
 use super::sound::sound_mapping;
@@ -57,10 +62,15 @@ pub(super) fn idle_in(alloc: Global, group: &Group<'_, '_>) -> Result<Vec<IdleSp
     ensures { (g : List Reading) → IsGroupOf g group.now → IfOk result (λ idle.
         AreIdle g (map unused_of idle.items)) }
 {
+    let earlier = earlier_alike(alloc, group.specs)?;
+    let mut reasons = Vec::with_capacity(alloc, group.specs.len())?;
     let mut idle = Vec::new(alloc);
     for spec_index in 0..group.specs.len() {
-        if let Some(reason) = idle_reason(alloc, group, spec_index)? {
-            let is_required = is_required(alloc, group.specs, spec_index)?;
+        let before = earlier[spec_index];
+        let reason = reason_at(alloc, group, spec_index, before, reasons.as_slice())?;
+        reasons.push(reason)?;
+        if let Some(reason) = reason {
+            let is_required = is_required_but_for(alloc, group.specs, spec_index, before)?;
             idle.push(IdleSpec {
                 spec_index,
                 reason,
@@ -69,6 +79,85 @@ pub(super) fn idle_in(alloc: Global, group: &Group<'_, '_>) -> Result<Vec<IdleSp
         }
     }
     Ok(idle)
+}
+
+// Why a spec is idle, if it is known of those before it, and which one of them has the same sides.
+fn reason_at(
+    alloc: Global,
+    group: &Group<'_, '_>,
+    index: usize,
+    before: Option<usize>,
+    reasons: &[Option<Reason>],
+) -> Result<Option<Reason>, AllocError>
+    requires within { index < length group.now.specs.now }
+    requires earlier { IfSome before (IsEarlier (map reading_of group.now.specs.now) index) }
+    requires long { length reasons.now ≡ index }
+    ensures { (g : List Reading) → IsGroupOf g group.now →
+        AreReasons g (map reading_of group.now.specs.now) reasons.now → IfOk result (λ why. (c : Reading) →
+        slice_get (map reading_of group.now.specs.now) index ≡ Some c → IsReasonOf g index c why) }
+{
+    match before {
+        None => idle_reason(alloc, group, index),
+        Some(before) => reason_behind(alloc, group, index, before, reasons[before]),
+    }
+}
+
+// Why a spec behind one with the same sides is idle, by the reason of that one.
+fn reason_behind(
+    alloc: Global,
+    group: &Group<'_, '_>,
+    index: usize,
+    before: usize,
+    why: Option<Reason>,
+) -> Result<Option<Reason>, AllocError>
+    requires { index < length group.now.specs.now }
+    ensures { (g : List Reading) → IsGroupOf g group.now → IsEarlier (map reading_of group.now.specs.now) index before →
+        ((b : Reading) → slice_get (map reading_of group.now.specs.now) before ≡ Some b → IsReasonOf g before b why) →
+        IfOk result (λ why. (c : Reading) →
+        slice_get (map reading_of group.now.specs.now) index ≡ Some c → IsReasonOf g index c why) }
+{
+    let spec = &group.specs[index];
+    if spec.is_negative() {
+        return Ok(None);
+    }
+    let Some(reason) = why else {
+        return Ok(Some(Reason::Duplicate(before)));
+    };
+    if is_by_several(reason) {
+        return idle_reason(alloc, group, index);
+    }
+    Ok(Some(reason))
+}
+
+// Whether several specs together make one idle.
+fn is_by_several(reason: Reason) -> bool
+    ensures { MatchBool result (reason ≡ reasons.Duplicates) (reason ≢ reasons.Duplicates) }
+{
+    match reason {
+        Reason::Invalid => false,
+        Reason::Excluded(_) => false,
+        Reason::Duplicate(_) => false,
+        Reason::Duplicates => true,
+    }
+}
+
+// Whether a spec is required, which it isn't behind one with the same source.
+fn is_required_but_for(
+    alloc: Global,
+    specs: &[RefSpecRef<'_>],
+    index: usize,
+    before: Option<usize>,
+) -> Result<bool, AllocError>
+    requires within { index < length specs.now }
+    requires earlier { IfSome before (IsEarlier (map reading_of specs.now) index) }
+    ensures { IfOk result (λ is. MatchBool is
+        (IsRequired (map reading_of specs.now) index)
+        (IsDispensable (map reading_of specs.now) index)) }
+{
+    match before {
+        None => is_required(alloc, specs, index),
+        Some(_) => Ok(false),
+    }
 }
 
 // Why a spec is idle. `None` if it isn't, or is negative.
@@ -316,6 +405,9 @@ fn does_map(
     if !may_take(&spec, source) {
         return Ok(false);
     }
+    if !may_write(&spec, destination) {
+        return Ok(false);
+    }
     makes(alloc, spec, items, source, destination)
 }
 
@@ -331,6 +423,20 @@ fn may_take(spec: &RefSpecRef<'_>, source: &Source) -> bool
     match parts_of(Some(side)) {
         Some((before, after)) => word_between(before, after, name).is_some(),
         None => name.ends_with(side.as_bytes()) || name.ends_with(b"/HEAD"),
+    }
+}
+
+// Whether a spec may write a destination: false only if it never does. It saves calls that match too.
+fn may_write(spec: &RefSpecRef<'_>, destination: Option<BStr<'_>>) -> bool
+    ensures { (r : Reading) (refs : List Ref) (s : Source) → IsCompleted r (reading_of spec.now) →
+        MakesForward refs s (option_map bstr_bytes destination.entry) (reading_of spec.now) → IsTrue result }
+{
+    let (Some(side), Some(name)) = (spec.destination(), destination) else {
+        return true;
+    };
+    match parts_of(Some(side)) {
+        Some((before, after)) => word_between(before, after, name.as_bytes()).is_some(),
+        None => side == name,
     }
 }
 
@@ -356,7 +462,8 @@ fn freeing_names(
     Ok(names)
 }
 
-// Adds those names of the second list that are valid, and not in the third.
+// Adds those names of the second list that are valid, and neither in the third nor there already: so there are few,
+// however many specs have one source.
 fn add_allowed(
     names: &mut Vec<BString>,
     before: Vec<BString>,
@@ -366,11 +473,24 @@ fn add_allowed(
         (map bstring_bytes kept_away.now) (map bstring_bytes names.new.items)) }
 {
     for name in before {
-        if is_allowed(name.as_bstr(), kept_away) {
+        if is_new(name.as_bstr(), names.as_slice(), kept_away) {
             names.push(name)?;
         }
     }
     Ok(())
+}
+
+// Whether a name isn't in the first list, and may be added to it.
+fn is_new(name: BStr<'_>, names: &[BString], kept_away: &[BString]) -> bool
+    ensures { MatchBool result
+        (IsRefName (bstr_bytes name.entry) × ¬ (Contains (map bstring_bytes kept_away.now) (bstr_bytes name.entry)))
+        (Contains (map bstring_bytes names.now) (bstr_bytes name.entry) ⊎ ¬ (IsRefName (bstr_bytes name.entry) ×
+        ¬ (Contains (map bstring_bytes kept_away.now) (bstr_bytes name.entry)))) }
+{
+    if contains(names, name) {
+        return false;
+    }
+    is_allowed(name, kept_away)
 }
 
 // Whether a name is valid, and not in a list.

@@ -23,6 +23,7 @@ ghost use Rattle.gix_refspec_lint.specs.Matching.Lint.{AreExamples, AreIdle, Are
 ghost use Rattle.gix_refspec_lint.specs.Views.Lint.{configuration_of, example_of, nesting_of, unused_of};
 ghost use Rattle.gix_refspec_lint.specs.declared.Error.TheVariants as error;
 
+mod alike;
 mod asked;
 mod borders;
 mod conflicts;

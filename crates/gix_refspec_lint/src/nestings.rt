@@ -4,7 +4,8 @@
 //! the text after it. In the first case the directory is known; in the others it is a name that two patterns have in
 // common.
 
-ghost use Rattle.std.specs.Prelude.{◌≡◌, ◌⊎◌, ◌<◌, ◌≤◌, ◌↔◌, ◌++◌, ◌∷◌, [], List, ℕ, Some, false, length, map, option_map, IfOk, IsTrue, MatchBool, MatchOption};
+ghost use Rattle.std.specs.Prelude.{◌≡◌, ◌⊎◌, ◌<◌, ◌≤◌, ◌↔◌, ◌++◌, ◌∷◌, [], List, ℕ, Some, false, length, map, max};
+ghost use Rattle.std.specs.Prelude.{option_map, IfOk, IsTrue, MatchBool, MatchOption};
 ghost use Rattle.std.specs.List.{Contains, slice_get};
 ghost use Rattle.bstr.specs.BStr.{bstr_bytes};
 ghost use Rattle.bstr.specs.Owned.{bstring_bytes};
@@ -16,12 +17,15 @@ ghost use Rattle.gix_refspec_match.specs.Matching.Lists.{IsMadeFrom};
 ghost use Rattle.gix_refspec_match.specs.Views.Mapping.{start_of};
 ghost use Rattle.gix_refspec_plan.specs.Matching.Plan.{CanBeWritten, IsDirectoryOf};
 ghost use Rattle.gix_refspec_lint.specs.Matching.Lint.{AreNestings, IsNesting, NestingOver, refs_of};
+ghost use Rattle.gix_refspec_lint.specs.Private.Alike.{AreEarlier, AreFlags, AreIndexesOf, AreRows, CanShowNesting};
+ghost use Rattle.gix_refspec_lint.specs.Private.Alike.{IsDead, IsEarlier, IsFoundNesting, second_of};
 ghost use Rattle.gix_refspec_lint.specs.Private.Lints.{AreApart, AreCommon, HasPattern, HaveParts, IsBounded, IsDeciding, IsGroupOf, words_with};
 ghost use Rattle.gix_refspec_lint.specs.Private.Nestings.{AreWithin, HaveFollowed, HaveOpenSides, IsAfter, IsFollowed, IsFoundEither, IsFoundIf, IsInWord, IsNestingFound, IsOpen, SourcesLack, TellWork};
 ghost use Rattle.gix_refspec_lint.specs.Views.Lint.{nesting_of};
 
 use super::PossibleDirectoryConflict;
-use super::conflicts::{Parts, have_same_sides, is_fetched, parts_in};
+use super::alike::{Row, are_in_order, earlier_alike, flag_before, have_same_sides, may_pair};
+use super::conflicts::{Parts, is_fetched, parts_in};
 use super::group::{Group, add_item, any_target, can_stand_together, makes, sources_for};
 use super::idle::{Others, idle_beside_others};
 use super::words::{Common, longer_prefix};
@@ -43,11 +47,14 @@ struct Two<'t, 'g, 's, 'w> {
     lower: usize,
 }
 
-// What is known of the specs of a group: the texts around the stars of their destinations, and which specs fetch anything.
+// What is known of the specs of a group: the texts around the stars of their destinations, which specs fetch anything,
+// and for each an earlier one with the same sides; and the words to try first.
 #[derive(Clone, Copy)]
-struct Known<'k, 'p> {
+struct Known<'k, 'p, 'w> {
+    words: &'k [BStr<'w>],
     parts: &'k [Parts<'p>],
     works: &'k [bool],
+    earlier: &'k [Option<usize>],
 }
 
 // Two destinations, the second in the directory of the first.
@@ -68,57 +75,184 @@ pub(super) fn nestings_in(
         AreNestings g (map nesting_of found.items)) }
 {
     let parts = parts_in(alloc, group.specs)?;
-    let works = works_in(alloc, group)?;
+    let earlier = earlier_alike(alloc, group.specs)?;
+    let works = works_in(alloc, group, earlier.as_slice())?;
     let known = Known {
+        words,
         parts: parts.as_slice(),
         works: works.as_slice(),
+        earlier: earlier.as_slice(),
     };
+    let mut rows: Vec<Vec<usize>> = Vec::with_capacity(alloc, group.specs.len())?;
     let mut found = Vec::new(alloc);
     for first in 0..group.specs.len() {
-        let mut of_first = nestings_with(alloc, group, words, &known, first)?;
+        let mut of_first = nestings_of(alloc, group, &known, rows.as_slice(), first)?;
+        let seconds = seconds_of(alloc, of_first.as_slice())?;
+        rows.push(seconds)?;
         found.append(&mut of_first)?;
     }
     Ok(found)
 }
 
+// The greater index of each of some directory conflicts.
+fn seconds_of(
+    alloc: Global,
+    conflicts: &[PossibleDirectoryConflict],
+) -> Result<Vec<usize>, AllocError>
+    ensures { IfOk result (λ seconds. seconds.items ≡ map (λ c. second_of (nesting_of c)) conflicts.now) }
+{
+    let mut seconds = Vec::with_capacity(alloc, conflicts.len())?;
+    for conflict in conflicts {
+        seconds.push(greater(conflict.upper_spec, conflict.lower_spec))?;
+    }
+    Ok(seconds)
+}
+
+fn greater(one: usize, other: usize) -> usize
+    ensures { result ≡ max one other }
+{
+    if one < other { other } else { one }
+}
+
 // Which specs fetch anything: the others have no example, so none has to be looked for.
-fn works_in(alloc: Global, group: &Group<'_, '_>) -> Result<Vec<bool>, AllocError>
+fn works_in(
+    alloc: Global,
+    group: &Group<'_, '_>,
+    earlier: &[Option<usize>],
+) -> Result<Vec<bool>, AllocError>
+    requires long { length earlier.now ≡ length group.now.specs.now }
+    requires earlier { AreEarlier (map reading_of group.now.specs.now) earlier.now }
     ensures long { IfOk result (λ works. length works.items ≡ length group.now.specs.now) }
     ensures dead { (g : List Reading) → IsGroupOf g group.now → IfOk result (λ works. TellWork g works.items) }
 {
     let mut works = Vec::with_capacity(alloc, group.specs.len())?;
     for index in 0..group.specs.len() {
-        let why = idle_beside_others(alloc, group, index, Others { from: 0, to: 0 })?;
-        works.push(why.is_none())?;
+        let before = flag_before(earlier[index], works.as_slice());
+        let does = does_work(alloc, group, index, before)?;
+        works.push(does)?;
     }
     Ok(works)
+}
+
+// Whether a spec fetches anything, unless an earlier one with the same sides tells.
+fn does_work(
+    alloc: Global,
+    group: &Group<'_, '_>,
+    index: usize,
+    before: Option<bool>,
+) -> Result<bool, AllocError>
+    requires { index < length group.now.specs.now }
+    ensures { (g : List Reading) → IsGroupOf g group.now → (before ≡ Some false → IsDead g index) →
+        IfOk result (λ does. does ≡ false → IsDead g index) }
+{
+    if let Some(does) = before {
+        return Ok(does);
+    }
+    let why = idle_beside_others(alloc, group, index, Others { from: 0, to: 0 })?;
+    Ok(why.is_none())
+}
+
+// Those of one spec with later ones, if it is known with which ones each before it is in such a conflict.
+fn nestings_of(
+    alloc: Global,
+    group: &Group<'_, '_>,
+    known: &Known<'_, '_, '_>,
+    rows: &[Vec<usize>],
+    first: usize,
+) -> Result<Vec<PossibleDirectoryConflict>, AllocError>
+    requires within { first < length group.now.specs.now }
+    requires parts { length known.now.parts.now ≡ length group.now.specs.now }
+    requires works { length known.now.works.now ≡ length group.now.specs.now }
+    requires long { length known.now.earlier.now ≡ length group.now.specs.now }
+    requires earlier { AreEarlier (map reading_of group.now.specs.now) known.now.earlier.now }
+    requires rows { length rows.now ≡ first }
+    ensures { (g : List Reading) → IsGroupOf g group.now → HaveParts group.now.specs.now known.now.parts.now →
+        TellWork g known.now.works.now → AreRows (CanShowNesting g) g (map (λ v. v.items) rows.now) →
+        IfOk result (λ found. IsMadeFrom (λ j q n. IsNesting g first j n) 0 g (map nesting_of found.items)) }
+{
+    match known.earlier[first] {
+        None => nestings_with(alloc, group, known, first),
+        Some(before) => nestings_again(alloc, group, known, first, rows[before].as_slice()),
+    }
 }
 
 // Those of one spec with later ones.
 fn nestings_with(
     alloc: Global,
     group: &Group<'_, '_>,
-    words: &[BStr<'_>],
-    known: &Known<'_, '_>,
+    known: &Known<'_, '_, '_>,
     first: usize,
+) -> Result<Vec<PossibleDirectoryConflict>, AllocError>
+    requires within { first < length group.now.specs.now }
+    requires parts { length known.now.parts.now ≡ length group.now.specs.now }
+    requires works { length known.now.works.now ≡ length group.now.specs.now }
+    requires long { length known.now.earlier.now ≡ length group.now.specs.now }
+    requires earlier { AreEarlier (map reading_of group.now.specs.now) known.now.earlier.now }
+    ensures { (g : List Reading) → IsGroupOf g group.now → HaveParts group.now.specs.now known.now.parts.now →
+        TellWork g known.now.works.now →
+        IfOk result (λ found. IsMadeFrom (λ j q n. IsNesting g first j n) 0 g (map nesting_of found.items)) }
+{
+    let mut found = Vec::new(alloc);
+    let mut flags = Vec::with_capacity(alloc, group.specs.len())?;
+    for second in 0..group.specs.len() {
+        let row = Row {
+            first,
+            flags: flags.as_slice(),
+        };
+        let nesting = nesting_if_new(alloc, group, known, &row, second)?;
+        flags.push(nesting.is_some())?;
+        if let Some(nesting) = nesting {
+            found.push(nesting)?;
+        }
+    }
+    Ok(found)
+}
+
+// An example of two specs, unless the flags say that there is none.
+fn nesting_if_new(
+    alloc: Global,
+    group: &Group<'_, '_>,
+    known: &Known<'_, '_, '_>,
+    row: &Row<'_>,
+    second: usize,
+) -> Result<Option<PossibleDirectoryConflict>, AllocError>
+    requires within { second < length group.now.specs.now }
+    requires parts { length known.now.parts.now ≡ length group.now.specs.now }
+    requires works { length known.now.works.now ≡ length group.now.specs.now }
+    requires long { length known.now.earlier.now ≡ length group.now.specs.now }
+    requires earlier { AreEarlier (map reading_of group.now.specs.now) known.now.earlier.now }
+    requires flags { length row.now.flags.now ≡ second }
+    ensures { (g : List Reading) → IsGroupOf g group.now → HaveParts group.now.specs.now known.now.parts.now →
+        TellWork g known.now.works.now → AreFlags (CanShowNesting g row.now.first) row.now.first row.now.flags.now →
+        IfOk result (λ found. IsFoundNesting g row.now.first second (option_map nesting_of found)) }
+{
+    if may_pair(known.earlier, row, second) {
+        return nesting_of_two(alloc, group, known, row.first, second);
+    }
+    Ok(None)
+}
+
+// Those of a spec behind one with the same sides, which is in such a conflict with the specs at these indexes.
+fn nestings_again(
+    alloc: Global,
+    group: &Group<'_, '_>,
+    known: &Known<'_, '_, '_>,
+    first: usize,
+    seconds: &[usize],
 ) -> Result<Vec<PossibleDirectoryConflict>, AllocError>
     requires within { first < length group.now.specs.now }
     requires parts { length known.now.parts.now ≡ length group.now.specs.now }
     requires works { length known.now.works.now ≡ length group.now.specs.now }
     ensures { (g : List Reading) → IsGroupOf g group.now → HaveParts group.now.specs.now known.now.parts.now →
         TellWork g known.now.works.now →
+        (p : ℕ) → IsEarlier (map reading_of group.now.specs.now) first p →
+        AreIndexesOf (CanShowNesting g p) g seconds.now →
         IfOk result (λ found. IsMadeFrom (λ j q n. IsNesting g first j n) 0 g (map nesting_of found.items)) }
 {
     let mut found = Vec::new(alloc);
-    for second in 0..group.specs.len() {
-        if are_tried(known.works, first, second) {
-            let two = Two {
-                group,
-                words,
-                upper: first,
-                lower: second,
-            };
-            if let Some(nesting) = nesting_either_way(alloc, &two, known.parts)? {
+    for second in seconds {
+        if are_in_order(first, *second, group.specs.len()) {
+            if let Some(nesting) = nesting_of_two(alloc, group, known, first, *second)? {
                 found.push(nesting)?;
             }
         }
@@ -126,13 +260,34 @@ fn nestings_with(
     Ok(found)
 }
 
-// Whether two specs are in order, and both fetch anything.
-fn are_tried(works: &[bool], first: usize, second: usize) -> bool
-    requires { (first < length works.now) × (second < length works.now) }
-    ensures { MatchBool result (first < second) ((second ≤ first)
-        ⊎ ((slice_get works.now first ≡ Some false) ⊎ (slice_get works.now second ≡ Some false))) }
+// An example of two specs, if both fetch anything.
+fn nesting_of_two(
+    alloc: Global,
+    group: &Group<'_, '_>,
+    known: &Known<'_, '_, '_>,
+    first: usize,
+    second: usize,
+) -> Result<Option<PossibleDirectoryConflict>, AllocError>
+    requires within { (first < second) × (second < length group.now.specs.now) }
+    requires parts { length known.now.parts.now ≡ length group.now.specs.now }
+    requires works { length known.now.works.now ≡ length group.now.specs.now }
+    ensures { (g : List Reading) → IsGroupOf g group.now → HaveParts group.now.specs.now known.now.parts.now →
+        TellWork g known.now.works.now → IfOk result (λ found.
+        IsFoundNesting g first second (option_map nesting_of found)) }
 {
-    first < second && works[first] && works[second]
+    if !known.works[first] {
+        return Ok(None);
+    }
+    if !known.works[second] {
+        return Ok(None);
+    }
+    let two = Two {
+        group,
+        words: known.words,
+        upper: first,
+        lower: second,
+    };
+    nesting_either_way(alloc, &two, known.parts)
 }
 
 // An example of two specs, of which either may be the upper one.

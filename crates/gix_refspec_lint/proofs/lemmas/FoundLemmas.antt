@@ -7,7 +7,7 @@ use Rattle.gix_refspec_lint.proofs.Common.{CanBeWritten, IsCompleted, ConflictOv
 use Rattle.gix_refspec_lint.proofs.Common.{◌∷◌, None, get_or, length, take, refl, subst, Contains, take_more, star}
 use Rattle.gix_refspec_lint.proofs.Common.{Lacks, reading_of, RefSpecRef, sides_agree, HasParts, zip_at, zip_more}
 use Rattle.gix_refspec_lint.proofs.Common.{Example, IsExample, AreApart, AreCommon, HasPattern, HaveCommon, HaveParts}
-use Rattle.gix_refspec_lint.proofs.Common.{IsFound, IsFoundAt, IsGroupOf, Group, Common, IsAccepted, ◌≤◌, append-nil}
+use Rattle.gix_refspec_lint.proofs.Common.{IsFound, IsFoundAt, IsGroupOf, Group, Common, IsAccepted, ◌≤◌}
 use Rattle.gix_refspec_lint.proofs.Common.{option_to_list, arith, AllByRecursion, length-map, length-take-le}
 use Rattle.gix_refspec_lint.proofs.Common.{IsJoinedFrom, IsMadeFrom, MakesOf, some_element, joined_next, made_next}
 use Rattle.gix_refspec_lint.proofs.Common.{zip_long, NoneAt, MatchOption, drop, option_map, words_with, IsOverlap}
@@ -213,13 +213,6 @@ row_next g i j found ys zs below is so_far more =
     [ None ↦ λ none. none | Some e ↦ λ shown. shown ] in
     rw (more, take_more g j x below) (made_next (λ j q e. IsExample g i j e) j (take j g) (get_or g j x) ys found
     (length-take-le j g (omega (arith, below))) so_far (makes is))
-
--- a spec doesn't conflict with an earlier one, nor with itself
-pub row_same : (g : List Reading) (i j : ℕ) (ys : List Example) → j < length g → j ≤ i
-    → IsMadeFrom (λ j q e. IsExample g i j e) 0 (take j g) ys → IsMadeFrom (λ j q e. IsExample g i j e) 0
-    (take (j + 1) g) ys
-row_same g i j ys below earlier so_far = row_next g i j None ys ys below (λ e shown. omega (arith, shown.order)) so_far
-    (sym (append-nil ys))
 
 abbrev pub AreOfFirst : List Reading → ℕ → List Example → Type 0
 AreOfFirst g i of_first = IsMadeFrom (λ j q e. IsExample g i j e) 0 g of_first

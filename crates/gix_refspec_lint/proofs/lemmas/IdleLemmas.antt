@@ -111,6 +111,18 @@ module _ (old : List (List ℕ)) (others : List BString) (away : List (List ℕ)
         ];
       })
 
+  pub allowed_there : Contains (map bstring_bytes now) n → AreAllowed old (map bstring_bytes (others ++ b ∷ [])) away
+      (map bstring_bytes now)
+  allowed_there there_now = rw (map-append bstring_bytes others (b ∷ [])) (record {
+    has_old = so_far.has_old;
+    has = λ m there valid free. elim (Contains-push_cases (map bstring_bytes others) n m there) [
+      | inl earlier ↦ so_far.has m earlier valid free
+      | inr same ↦ subst (Contains (map bstring_bytes now)) same
+          there_now
+    ];
+    only = so_far.only;
+  })
+
   pub allowed_same : ¬ (IsRefName n × ¬ (Contains away n)) → AreAllowed old (map bstring_bytes (others ++ b ∷ [])) away
       (map bstring_bytes now)
   allowed_same none = rw (map-append bstring_bytes others (b ∷ [])) (record {

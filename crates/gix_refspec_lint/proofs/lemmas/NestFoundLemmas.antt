@@ -1,9 +1,9 @@
 -- What is found of two specs at two destinations, and of one spec with all others.
 use Rattle.gix_refspec_lint.proofs.Common.{◌≡◌, inl, inr, ℕ, ◌+◌, ◌<◌, ◌≤◌, List, [], ◌∷◌, ◌++◌, Option, None, Some}
 use Rattle.gix_refspec_lint.proofs.Common.{length, take, map, get_or, refl, sym, ap, ◌∙◌, subst, arith, append-nil}
-use Rattle.gix_refspec_lint.proofs.Common.{length-take-le, option_to_list, take_more, AllByRecursion, AllZip, Contains}
-use Rattle.gix_refspec_lint.proofs.Common.{slice_get, some_element, of_element, made_next, joined_next, IsMadeFrom}
-use Rattle.gix_refspec_lint.proofs.Common.{IsJoinedFrom, MakesOf, Ref, Reading, Source, HaveSameNames, MakesForward}
+use Rattle.gix_refspec_lint.proofs.Common.{length-take-le, take_more, AllByRecursion, AllZip, Contains}
+use Rattle.gix_refspec_lint.proofs.Common.{slice_get, some_element, of_element, joined_next, IsMadeFrom}
+use Rattle.gix_refspec_lint.proofs.Common.{IsJoinedFrom, Ref, Reading, Source, HaveSameNames, MakesForward}
 use Rattle.gix_refspec_lint.proofs.Common.{AreStorable, CanBeWritten, Fetches, IsCompleted, IsDirectoryOf}
 use Rattle.gix_refspec_lint.proofs.Common.{IsSourceExcluded, IsValidSource, refs_of, Bor, Fits, HaveParts, IsFree}
 use Rattle.gix_refspec_lint.proofs.Common.{RefSpecRef, candidate_contained, candidates, reading_of, AreApart, AreCommon}
@@ -27,14 +27,13 @@ use Rattle.gix_refspec_lint.proofs.lemmas.SourceLemmas.{source_unsplit, taken_ca
 use Rattle.gix_refspec_lint.proofs.lemmas.NestLemmas.{candidates_lack, after_star, before_star, decided_below}
 use Rattle.gix_refspec_lint.proofs.lemmas.NestLemmas.{decided_followed, in_word, slash_of, word_freed}
 use Rattle.gix_refspec_lint.specs.Matching.Lint.{IsNesting, IsNestingOf, Nesting, NestingOver}
-use Rattle.std.proofs.Common.{◌⊎◌, suc, zero}
 use Rattle.std.proofs.lemmas.Option.{same_Some}
 use Rattle.gix_refspec_lint.specs.declared.idle.Idleness.{Idleness}
 use Rattle.gix_refspec_lint.specs.declared.idle.Idleness.TheVariants as idleness
 use Rattle.gix_refspec_lint.specs.Private.Idles.{IsWhyBeside}
 use Rattle.gix_refspec_lint.specs.Private.Nestings.{HaveFollowed, HaveOpenSides, IsAfter, IsFollowed, IsFoundEither}
 use Rattle.gix_refspec_lint.specs.Private.Nestings.{IsFoundIf, IsInWord, IsNestingFound, IsWithout, NoneNested}
-use Rattle.gix_refspec_lint.specs.Private.Nestings.{SourcesLack, TellWork}
+use Rattle.gix_refspec_lint.specs.Private.Nestings.{SourcesLack}
 
 -- ---- lists of what is found
 
@@ -42,79 +41,16 @@ use Rattle.gix_refspec_lint.specs.Private.Nestings.{SourcesLack, TellWork}
 abbrev pub AreNestingsOf : List Reading → ℕ → List Reading → List Nesting → Type 0
 AreNestingsOf g i l found = IsMadeFrom (λ j q n. IsNesting g i j n) 0 l found
 
-pub row_next : (g : List Reading) (i j : ℕ) (found : Option Nesting) (ys zs : List Nesting) → j < length g → i < j
-    → IsFoundEither g i j found → AreNestingsOf g i (take j g) ys → zs ≡ ys ++ option_to_list found
-    → AreNestingsOf g i (take (j + 1) g) zs
-row_next g i j found ys zs below before is so_far more =
-    let x = some_element g j below in
-    let makes = elim found as (λ f. IsFoundEither g i j f → MakesOf (λ j q n. IsNesting g i j n) j (get_or g j x) f) [
-      | None ↦ λ none n shown. elim shown.either [
-        | inl one ↦ (none n.directory n.nested).0 n.one n.other one.over
-        | inr other ↦ (none n.directory n.nested).1 n.one n.other other.over
-      ]
-      | Some n ↦ λ shown. record { before = before; either = shown }
-    ] in
-    rw (more, take_more g j x below) (made_next (λ j q n. IsNesting g i j n) j (take j g) (get_or g j x) ys found
-    (length-take-le j g (omega (arith, below))) so_far (makes is))
-
-row_none : (g : List Reading) (i j : ℕ) (ys : List Nesting) → j < length g → ((n : Nesting) → ¬ (IsNesting g i j n))
-    → AreNestingsOf g i (take j g) ys → AreNestingsOf g i (take (j + 1) g) ys
-row_none g i j ys below none so_far =
-    let x = some_element g j below in
-    rw (take_more g j x below) (subst (AreNestingsOf g i (take j g ++ get_or g j x ∷ [])) (append-nil ys)
-    (made_next (λ j q n. IsNesting g i j n) j (take j g) (get_or g j x) ys None
-    (length-take-le j g (omega (arith, below))) so_far none))
-
--- a spec isn't compared with an earlier one, nor with itself, nor with one that fetches nothing
-pub row_passed : (g : List Reading) (works : List Bool) (i j : ℕ) (ys : List Nesting) → j < length g → TellWork g works
-    → (j ≤ i) ⊎ ((slice_get works i ≡ Some false) ⊎ (slice_get works j ≡ Some false)) → AreNestingsOf g i (take j g) ys
-    → AreNestingsOf g i (take (j + 1) g) ys
-row_passed g works i j ys below tell why = row_none g i j ys below (λ n shown. elim why [
-  | inl earlier ↦ omega (arith, earlier, shown.before)
-  | inr (inl dead) ↦ elim shown.either [
-    | inl one ↦ tell i dead _ _ _ one.over.upper
-    | inr other ↦
-        tell i dead _ _ _ other.over.lower
-  ]
-  | inr (inr dead) ↦ elim shown.either [
-    | inl one ↦ tell j dead _ _ _ one.over.lower
-    | inr other ↦
-        tell j dead _ _ _ other.over.upper
-  ]
-])
-
 -- ---- specs that fetch nothing
 
-marked_at : (works : List Bool) (b : Bool) (k : ℕ) → slice_get (works ++ b ∷ []) k ≡ Some false
-    → (slice_get works k ≡ Some false) ⊎ ((k ≡ length works) × (b ≡ false))
-marked_at [] b zero is = inr (refl, same_Some _ _ is)
-marked_at [] b (suc k) is = inl is
-marked_at (x ∷ works) b zero is = inl is
-marked_at (x ∷ works) b (suc k) is = elim (marked_at works b k is) [
-  | inl before ↦ inl before
-  | inr here ↦
-      inr (ap suc here.0, here.1)
-]
-
 -- a spec that does nothing, though there are no others beside it, fetches nothing
-dead_spec : (g : List Reading) (k : ℕ) (c : Reading) (why : Option Idleness)
+pub dead_spec : (g : List Reading) (k : ℕ) (c : Reading) (why : Option Idleness)
     → IsWhyBeside g (record { from = 0; to = 0 }) k c why → is_some why ≡ true
     → (refs : List Ref) (s : Source) (d : Option (List ℕ)) → ¬ (Fetches g refs k s d)
 dead_spec g k c None is some refs s d = absurd (false≢true some)
 dead_spec g k c (Some idleness.Invalid) is some refs s d = λ fetches. is.1 refs s d fetches.maps
 dead_spec g k c (Some (idleness.Excluded n)) is some refs s d = is.1.0 refs s d
 dead_spec g k c (Some (idleness.Duplicate h)) is some refs s d = absurd (omega (arith, is.1.1.other.1))
-
--- one more spec is told
-pub work_next : (g : List Reading) (old new : List Bool) (k : ℕ) (c : Reading) (why : Option Idleness) (b : Bool)
-    → length old ≡ k → IsWhyBeside g (record { from = 0; to = 0 }) k c why
-    → is_some why ≡ not b → new ≡ old ++ b ∷ [] → TellWork g old → TellWork g new
-work_next g old new k c why b long is told grew so_far j marked refs s d fetches =
-    elim (marked_at old b j (ap (λ l. slice_get l j) (sym grew) ∙ marked)) [
-      | inl before ↦ so_far j before refs s d fetches
-      | inr here ↦ dead_spec g k c why is (told ∙ ap not here.1) refs s d
-          (subst (λ i. Fetches g refs i s d) (here.0 ∙ long) fetches)
-    ]
 
 pub rows_next : (g : List Reading) (i : ℕ) (row ys zs : List Nesting) → i < length g → AreNestingsOf g i g row
     → IsJoinedFrom (λ i r of_first. AreNestingsOf g i g of_first) 0 (take i g) ys → zs ≡ ys ++ row
