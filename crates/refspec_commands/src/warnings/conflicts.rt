@@ -14,7 +14,7 @@ ghost use Rattle.refspec_commands.specs.WarnedViews.{SpecsMatchTexts, asked_of, 
 
 use super::beside::{Beside, values_alone};
 use super::group::Group;
-use super::required::{Part, required_name, say_if_stopped};
+use super::required::{Part, Required, required_name, say_if_stopped};
 use super::{Topic, Warning, or_nothing, say};
 use bstr::BStr;
 use gix_refspec::match_group::{MapName, Source};
@@ -69,9 +69,10 @@ fn warnings_on<'a>(
     ensures { IfOk result (λ warnings. AllZip (IsConflictSaid (map given_of texts.now))
         (map example_of conflicts.now) (map said_of warnings.items)) }
 {
+    let required = Required::of(alloc, group)?;
     let mut warnings = Vec::with_capacity(alloc, conflicts.len())?;
     for conflict in conflicts {
-        warnings.push(warning_on(alloc, group, texts, conflict)?)?;
+        warnings.push(warning_on(alloc, group, texts, &required, conflict)?)?;
     }
     Ok(warnings)
 }
@@ -81,6 +82,7 @@ fn warning_on<'a>(
     alloc: Global,
     group: &Group<'a>,
     texts: &[Text<'a>],
+    required: &Required<'a>,
     conflict: &PossibleConflict,
 ) -> Result<Warning<'a>, AllocError>
     requires { IsAmong (length texts.now) (example_of conflict.now) }
@@ -90,7 +92,7 @@ fn warning_on<'a>(
     let other = texts[conflict.second_spec];
     let mut warning = Warning::on(alloc, Topic::PossibleConflict, text, Some(other))?;
     write_example(alloc, conflict, &mut warning.message)?;
-    write_advice(alloc, group, conflict, &mut warning.advice)?;
+    write_advice(alloc, group, required, conflict, &mut warning.advice)?;
     Ok(warning)
 }
 
@@ -228,6 +230,7 @@ fn has_suffix(spec: &RefSpecRef<'_>) -> bool {
 fn write_advice(
     alloc: Global,
     group: &Group<'_>,
+    required: &Required<'_>,
     conflict: &PossibleConflict,
     out: &mut Vec<u8>,
 ) -> Result<(), AllocError> {
@@ -240,7 +243,7 @@ fn write_advice(
         spec: conflict.second_spec,
         source: &conflict.second_source,
     };
-    say_if_stopped(alloc, group, [first, second], out)
+    say_if_stopped(alloc, group, required, [first, second], out)
 }
 
 // Advises to exclude what conflicts, if that is all that it takes.

@@ -14,7 +14,7 @@ use super::conflicts::{
     add_more, beside_negatives, leaves_all, negative_spec, tried_specs, usual_words, with_exclusion,
 };
 use super::group::Group;
-use super::required::{Part, say_if_stopped};
+use super::required::{Part, Required, say_if_stopped};
 use super::{Topic, Warning, or_nothing, say};
 use gix_refspec::RefSpecRef;
 use gix_refspec::match_group::{Source, SourceRef};
@@ -69,9 +69,10 @@ fn warnings_on<'a>(
     ensures { IfOk result (λ warnings. AllZip (IsNestingSaid (map given_of texts.now))
         (map nesting_of conflicts.now) (map said_of warnings.items)) }
 {
+    let required = Required::of(alloc, group)?;
     let mut warnings = Vec::with_capacity(alloc, conflicts.len())?;
     for conflict in conflicts {
-        warnings.push(warning_on(alloc, group, texts, conflict)?)?;
+        warnings.push(warning_on(alloc, group, texts, &required, conflict)?)?;
     }
     Ok(warnings)
 }
@@ -81,6 +82,7 @@ fn warning_on<'a>(
     alloc: Global,
     group: &Group<'a>,
     texts: &[Text<'a>],
+    required: &Required<'a>,
     conflict: &PossibleDirectoryConflict,
 ) -> Result<Warning<'a>, AllocError>
     requires { AreWithin (length texts.now) (nesting_of conflict.now) }
@@ -90,7 +92,7 @@ fn warning_on<'a>(
     let lower = texts[conflict.lower_spec];
     let mut warning = Warning::on(alloc, Topic::DirectoryConflict, upper, Some(lower))?;
     write_example(alloc, conflict, &mut warning.message)?;
-    write_advice(alloc, group, conflict, &mut warning.advice)?;
+    write_advice(alloc, group, required, conflict, &mut warning.advice)?;
     Ok(warning)
 }
 
@@ -135,6 +137,7 @@ fn write_sources(
 fn write_advice(
     alloc: Global,
     group: &Group<'_>,
+    required: &Required<'_>,
     conflict: &PossibleDirectoryConflict,
     out: &mut Vec<u8>,
 ) -> Result<(), AllocError> {
@@ -147,7 +150,7 @@ fn write_advice(
         spec: conflict.lower_spec,
         source: &conflict.lower_source,
     };
-    say_if_stopped(alloc, group, [upper, lower], out)
+    say_if_stopped(alloc, group, required, [upper, lower], out)
 }
 
 // Advises to exclude the source that is in the way, if it is the only one.

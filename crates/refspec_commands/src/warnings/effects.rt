@@ -13,6 +13,7 @@ use gix_refspec_match::needle::word_between;
 use gix_refspec_text::side::split_at_first_star;
 use refspec_io::texts::{Location, Text};
 use std::alloc::{AllocError, Global};
+use std::collections::BTreeMap;
 
 // What depends on a spec without effects.
 const NOTHING: Removal = Removal {
@@ -93,14 +94,31 @@ fn repeats(group: &Group<'_>, spec: &RefSpecRef<'_>, reason: Reason) -> bool {
     }
 }
 
+/// How many negative specs of a group have each source.
+pub(super) fn negative_counts<'a>(
+    alloc: Global,
+    group: &Group<'a>,
+) -> Result<BTreeMap<&'a [u8], usize>, AllocError> {
+    let mut counts = BTreeMap::new(alloc);
+    for spec in &group.specs {
+        if spec.is_negative() {
+            let source = side_of(spec.source());
+            let count: usize = counts.get(source).copied().unwrap_or(0);
+            counts.insert(source, count.saturating_add(1))?;
+        }
+    }
+    Ok(counts)
+}
+
 /// The effects of a negative spec that excludes nothing.
 pub(super) fn effects_of_exclusion(
     alloc: Global,
     group: &Group<'_>,
     beside: &Beside<'_>,
+    counts: &BTreeMap<&[u8], usize>,
     index: usize,
 ) -> Result<Effects, AllocError> {
-    let found = removed(alloc, group, beside, index)?;
+    let found = removed_of_exclusion(alloc, group, beside, counts, index)?;
     let removal = found.unwrap_or(NOTHING);
     let is_open = found.is_none();
     let follows = matches!(beside.tags, Tags::Followed);
@@ -114,6 +132,24 @@ pub(super) fn effects_of_exclusion(
         removal,
         is_open,
     })
+}
+
+// What depends on a negative spec: nothing if another one has its source, unless it is the first of all.
+fn removed_of_exclusion(
+    alloc: Global,
+    group: &Group<'_>,
+    beside: &Beside<'_>,
+    counts: &BTreeMap<&[u8], usize>,
+    index: usize,
+) -> Result<Option<Removal>, AllocError> {
+    let Some(spec) = group.specs.get(index) else {
+        return Ok(None);
+    };
+    let count: usize = counts.get(side_of(spec.source())).copied().unwrap_or(0);
+    if index > 0 && count > 1 {
+        return Ok(Some(NOTHING));
+    }
+    removed(alloc, group, beside, index)
 }
 
 // Whether no other positive spec takes all that the one at an index takes, as far as their texts tell, but one has a

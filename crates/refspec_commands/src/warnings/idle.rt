@@ -10,7 +10,7 @@ ghost use Rattle.refspec_commands.specs.Warned.{AreExclusionsSaid, AreIdleSaid, 
 ghost use Rattle.refspec_commands.specs.WarnedViews.{KeepsTopic, SpecsMatchTexts, asked_of, said_of};
 
 use super::beside::Beside;
-use super::effects::{Weight, effects_of, effects_of_exclusion};
+use super::effects::{Weight, effects_of, effects_of_exclusion, negative_counts};
 use super::group::Group;
 use super::{Topic, Warning, or_nothing, say};
 use gix_refspec::RefSpecRef;
@@ -19,6 +19,7 @@ use gix_refspec_text::side::{split_at_first_star, written_name};
 use refspec_io::sentence::{may_be_below_refs, may_be_ref};
 use refspec_io::texts::Text;
 use std::alloc::{AllocError, Global};
+use std::collections::BTreeMap;
 
 /// A warning for each positive spec that adds nothing.
 pub(super) fn idle_in<'a>(
@@ -229,10 +230,11 @@ fn exclusion_warnings<'a>(
         (λ i k s. IsExclusionSaid (map reading_of group.now.specs.items) (map given_of group.now.texts.items) k s)
         0 idle.now (map said_of warnings.items)) }
 {
+    let counts = negative_counts(alloc, group)?;
     let mut warnings = Vec::new(alloc);
     for exclusion in idle {
         if may_exclude_at(group, *exclusion) {
-            warnings.push(exclusion_warning(alloc, group, beside, *exclusion)?)?;
+            warnings.push(exclusion_warning(alloc, group, beside, &counts, *exclusion)?)?;
         }
     }
     Ok(warnings)
@@ -243,6 +245,7 @@ fn exclusion_warning<'a>(
     alloc: Global,
     group: &Group<'a>,
     beside: &Beside<'a>,
+    counts: &BTreeMap<&'a [u8], usize>,
     index: usize,
 ) -> Result<Warning<'a>, AllocError>
     requires matching { SpecsMatchTexts group.now }
@@ -252,7 +255,7 @@ fn exclusion_warning<'a>(
 {
     let text = group.texts[index];
     let mut warning = Warning::on(alloc, Topic::IdleExclusion, text, None)?;
-    let effects = effects_of_exclusion(alloc, group, beside, index)?;
+    let effects = effects_of_exclusion(alloc, group, beside, counts, index)?;
     let advice: &[u8] = match effects.weight() {
         Weight::None => b"Correct its name, or remove it.",
         Weight::Some => b"Correct its name, or remove it if you don't want that.",

@@ -24,10 +24,9 @@ pub(super) fn removal_among(
     if index == 0 || spec.is_negative() {
         return removal_in(alloc, specs, index);
     }
-    let near = Near::of(alloc, specs, index)?;
-    if near.specs.len() > MANY {
+    let Some(near) = Near::of(alloc, specs, index)? else {
         return Ok(None);
-    }
+    };
     let Some(removal) = removal_in(alloc, near.specs.as_slice(), near.index)? else {
         return Ok(None);
     };
@@ -66,7 +65,12 @@ struct Near<'s> {
 }
 
 impl<'s> Near<'s> {
-    fn of(alloc: Global, specs: &[RefSpecRef<'s>], index: usize) -> Result<Near<'s>, AllocError> {
+    // `None` if there are many.
+    fn of(
+        alloc: Global,
+        specs: &[RefSpecRef<'s>],
+        index: usize,
+    ) -> Result<Option<Near<'s>>, AllocError> {
         let own = specs.get(index).and_then(|spec| spec.destination());
         let mut near = Near {
             specs: Vec::new(alloc),
@@ -79,14 +83,20 @@ impl<'s> Near<'s> {
             } else if !spec.is_negative() && may_meet(own, spec.destination()) {
                 near.specs.push(*spec)?;
             }
+            if near.specs.len() > MANY {
+                return Ok(None);
+            }
         }
         let positives = near.specs.len();
         for spec in specs {
             if spec.is_negative() && near.may_exclude(positives, spec) {
                 near.specs.push(*spec)?;
             }
+            if near.specs.len() > MANY {
+                return Ok(None);
+            }
         }
-        Ok(near)
+        Ok(Some(near))
     }
 
     // Whether a negative spec can exclude a source of the first specs, which are positive.
