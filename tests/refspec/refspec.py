@@ -105,6 +105,37 @@ def check_many(program):
             stop(f"check of {values[-2:]} and more says {words!r} {made.stderr.count(words)} times")
 
 
+# Groups of so many values, each with few that differ.
+REPEATED = (
+    lambda count: ["+a:b"] * count,
+    lambda count: ["+a:b", "a:b"] * (count // 2),
+    lambda count: ["+refs/heads/*:refs/remotes/origin/*"] * count,
+    lambda count: ["^refs/heads/a"] + ["refs/heads/a:refs/x/a"] * count,
+    lambda count: ["topic/*:refs/x/*"] * count,
+    lambda count: ["refs/heads/*:refs/x/*"] + ["^refs/notes/a"] * count,
+)
+
+
+def seconds_of(program, values):
+    """The least processor time of three checks of some values."""
+    times = []
+    for _ in range(3):
+        begun = os.times()
+        subprocess.run([program, "check"], input="\n".join(values).encode(), capture_output=True, check=True, timeout=300)
+        ended = os.times()
+        times.append(ended.children_user - begun.children_user)
+    return min(times)
+
+
+def check_growth(program):
+    """Repeated values are looked at once: four times as many take some four times as long, and not sixteen times."""
+    for number, values_of in enumerate(REPEATED):
+        few, many = (seconds_of(program, values_of(count)) for count in (5_000, 20_000))
+        if many > 10 * few + 0.2:
+            stop(f"check of 20,000 values as {values_of(1)[-1:]} ({number}) takes {many:.2f} s, of 5,000"
+                 f" {few:.2f} s")
+
+
 def check_time(program):
     refs = "".join(f"{number:040x}\trefs/heads/topic/{number * 7919 % 200_000:06d}\n" for number in range(200_000))
     with tempfile.NamedTemporaryFile() as file:
@@ -126,7 +157,7 @@ def check_time(program):
 
 def main():
     program = paths(__doc__, "program")
-    for check in (check_outputs, check_inputs, check_summary, check_page, check_many):
+    for check in (check_outputs, check_inputs, check_summary, check_page, check_many, check_growth):
         check(program)
     taken = check_time(program)
     print(f"refspec: inputs and outputs that fail; 200,000 refs in {taken[1]:.2f} s, sort in {taken[0]:.2f} s")
