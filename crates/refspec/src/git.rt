@@ -22,6 +22,10 @@ struct Folder<'a> {
 }
 
 impl Machine for Folder<'_> {
+    ghost use Rattle.refspec_git.specs.World.{anything};
+
+    ghost world = { λ _. anything };
+
     fn output(&self, file: &str) -> Result<Option<Vec<u8>>, Fault> {
         let path = self.path;
         let path = format!(in self.rt.alloc(); "{path}/{file}")?;

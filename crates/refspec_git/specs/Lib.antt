@@ -9,3 +9,4 @@ pub mod Stops
 pub mod Texts
 pub mod Tracking
 pub mod Wanted
+pub mod World

@@ -1,8 +1,10 @@
 //! The result of a call, or why it stops early.
 
-ghost use Rattle.std.specs.Prelude.{◌≡◌, IfOk};
+ghost use Rattle.std.specs.Prelude.{◌≡◌, IfOk, map, option_map};
+ghost use Rattle.std.specs.String.{string_bytes};
 ghost use Rattle.refspec_io.specs.declared.fault.Fault.TheVariants as fault;
 ghost use Rattle.refspec_git.specs.Answers.{IsReport, Requests};
+ghost use Rattle.refspec_git.specs.World.{World};
 ghost use Rattle.refspec_git.specs.declared.answer.Stop.TheVariants as stop;
 
 use refspec_io::fault::Fault;
@@ -14,17 +16,24 @@ use std::alloc::{AllocError, AllocFailed, Global};
 
 /// The files of a call, and its terminal.
 pub trait Machine {
+    /// What its methods may return.
+    ghost world: { Self → World };
+
     /// The arguments of the call, or the output of a Git command. `None` before the command ran.
-    fn output(&self, file: &str) -> Result<Option<Vec<u8>>, Fault>;
+    fn output(&self, file: &str) -> Result<Option<Vec<u8>>, Fault>
+        ensures { IfOk result (λ output. (world self.now).printed file.now (option_map (λ o. o.items) output)) };
 
     /// The names of the files of a folder, sorted. Empty if there is no such folder.
-    fn names(&self, folder: &str) -> Result<Vec<String>, Fault>;
+    fn names(&self, folder: &str) -> Result<Vec<String>, Fault>
+        ensures { IfOk result (λ names. (world self.now).listed folder.now (map string_bytes names.items)) };
 
     /// Whether a file or folder has this path.
-    fn has(&self, path: &str) -> bool;
+    fn has(&self, path: &str) -> bool
+        ensures { (world self.now).found path.now result };
 
     /// Whether messages go to a terminal.
-    fn is_watched(&self) -> bool;
+    fn is_watched(&self) -> bool
+        ensures { (world self.now).watched result };
 }
 
 /// The result of a call.
