@@ -1,5 +1,6 @@
 mod AnswerLemmas
 mod AskedLemmas
+mod CheckingLemmas
 mod ChosenLemmas
 mod ConfiguredLemmas
 mod FetchLemmas

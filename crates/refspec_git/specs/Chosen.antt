@@ -2,7 +2,7 @@
 use Rattle.std.specs.Prelude.{◌≡◌, ◌≢◌, ◌⊎◌, ◌↔◌, ◌+◌, ◌<◌, ◌≤◌, ◌++◌, ⊤, ℕ, Bool, IsTrue, List, [], ◌∷◌, Option, None}
 use Rattle.std.specs.Prelude.{MatchOption, Some, codes, cond, length, map, option_map, option_to_list}
 use Rattle.std.specs.Borrow.{Bor}
-use Rattle.std.specs.BTreeSet.{BTreeSet, contains_by}
+use Rattle.std.specs.BTreeSet.{BTreeSet, btree_set_len, contains_by}
 use Rattle.std.specs.Cmp.Lexicographic.{slice_cmp}
 use Rattle.std.specs.List.{All, Any, Contains}
 use Rattle.std.specs.Ordering.{nat_cmp}
@@ -10,7 +10,9 @@ use Rattle.std.specs.Str.{IsUtf8}
 use Rattle.gix_refspec.specs.Specs.Reading.{Reading}
 use Rattle.gix_refspec_text.specs.declared.parsing.Operation.{Operation}
 use Rattle.gix_refspec_text.specs.declared.parsing.Operation.TheVariants as operation
+use Rattle.refspec_io.specs.declared.call.Form.{Form}
 use Rattle.refspec_io.specs.declared.fault.Fault.TheVariants as fault
+use Rattle.refspec_io.specs.declared.report.Report.{Report}
 use Rattle.refspec_io.specs.declared.settings.Setting.{Setting}
 use Rattle.refspec_io.specs.Read.{AreRead, HasRefused}
 use Rattle.refspec_io.specs.Settings.{HasLacking}
@@ -145,6 +147,14 @@ RefusesOld request r (stop.Failed f) = ⊥
 abbrev pub RefusesChosen : Request → Repository → Stop → Type 0
 RefusesChosen request r s = ¬ (NamesNothing request) × (RefusesNamed request r s ⊎ RefusesOld request r s)
 
+-- the arguments name remotes
+abbrev pub NamesRemotes : Chosen → Type 0
+NamesRemotes c = MatchOption c.remotes ⊥ (λ set. btree_set_len set ≢ 0)
+
+-- remotes are checked, and not specs alone
+abbrev pub HasRemotes : Chosen → Type 0
+HasRemotes c = (c.remotes ≡ None) ⊎ NamesRemotes c
+
 -- the operation of the specs: that of a push with --push
 abbrev pub operation_for : Bool → Operation
 operation_for push = cond push operation.Push operation.Fetch
@@ -182,3 +192,7 @@ AreUsable values = ¬ (HasLacking values) × (texts : List Given) × AreValues v
 abbrev pub HasUnusable : List Setting → Type 0
 HasUnusable values =
     HasLacking values ⊎ ((texts : List Given) × AreValues values texts × HasRefused (map said texts))
+
+-- the report on values, of which some are unusable, in this form
+abbrev pub ReportsUnusable : List Setting → Form → Report → Type 0
+ReportsUnusable values form report = HasUnusable values × (report.form ≡ form)

@@ -1,5 +1,6 @@
 pub mod Answers
 pub mod Asked
+pub mod Checking
 pub mod Chosen
 pub mod Configured
 pub mod Fetch

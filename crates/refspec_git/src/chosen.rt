@@ -8,9 +8,10 @@ ghost use Rattle.refspec_io.specs.Texts.{AddsValues, AreValues, given_of};
 ghost use Rattle.refspec_request.specs.declared.choice.Looks.TheVariants as looks;
 ghost use Rattle.refspec_request.specs.Words.{LooksLike};
 ghost use Rattle.refspec_request.specs.Choices.{HasNoOldForm, IsOldForm};
-ghost use Rattle.refspec_git.specs.Chosen.{AreChosen, AreValuesOf, HasNamed, HoldsSpecs, IsAmong, IsNoSpecAt, IsRemote};
-ghost use Rattle.refspec_git.specs.Chosen.{IsSpec, IsSpecAt, IsValueOf, NamesNothing, RefusesArgument, RefusesChosen};
-ghost use Rattle.refspec_git.specs.Chosen.{RefusesNamed, StopsAt, operation_for, spec_texts};
+ghost use Rattle.refspec_git.specs.Chosen.{AreChosen, AreValuesOf, HasNamed, HasRemotes, HoldsSpecs, IsAmong};
+ghost use Rattle.refspec_git.specs.Chosen.{IsNoSpecAt, IsRemote, IsSpec, IsSpecAt, IsValueOf, NamesNothing};
+ghost use Rattle.refspec_git.specs.Chosen.{NamesRemotes, RefusesArgument, RefusesChosen, RefusesNamed, StopsAt};
+ghost use Rattle.refspec_git.specs.Chosen.{operation_for, spec_texts};
 
 use crate::answer::Stop;
 use crate::texts::{argument, utf8, value};
@@ -34,12 +35,16 @@ pub struct Chosen<'a> {
 
 impl Chosen<'_> {
     /// Whether remotes are checked, and not specs alone.
-    pub fn has_remotes(&self) -> bool {
+    pub fn has_remotes(&self) -> bool
+        ensures { MatchBool result (HasRemotes self.now) (¬ (HasRemotes self.now)) }
+    {
         self.remotes.is_none() || self.names_remotes()
     }
 
     /// Whether the arguments name remotes.
-    pub fn names_remotes(&self) -> bool {
+    pub fn names_remotes(&self) -> bool
+        ensures { MatchBool result (NamesRemotes self.now) (¬ (NamesRemotes self.now)) }
+    {
         match &self.remotes {
             None => false,
             Some(names) => !names.is_empty(),
@@ -72,8 +77,8 @@ pub fn chosen_of<'a>(
     })
 }
 
-// Whether a call names neither a remote nor a spec.
-fn names_nothing(request: &Request<'_>) -> bool
+/// Whether a call names neither a remote nor a spec.
+pub fn names_nothing(request: &Request<'_>) -> bool
     ensures { MatchBool result (NamesNothing request.now) (¬ (NamesNothing request.now)) }
 {
     if names_remote(request) {
