@@ -1,5 +1,6 @@
 mod AnswerLemmas
 mod AskedLemmas
+mod CallLemmas
 mod CheckingLemmas
 mod ChosenLemmas
 mod ConfiguredLemmas
@@ -7,6 +8,7 @@ mod FetchLemmas
 mod GivenLemmas
 mod NamedLemmas
 mod RefLemmas
+mod RepositoryLemmas
 mod StopsLemmas
 mod TrackingLemmas
 mod WantedLemmas

@@ -5,5 +5,6 @@ pub mod ConfiguredFacts
 pub mod FetchFacts
 pub mod NamedFacts
 pub mod RefFacts
+pub mod RepositoryFacts
 pub mod StopsFacts
 pub mod WantedFacts

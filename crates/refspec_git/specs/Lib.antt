@@ -1,11 +1,13 @@
 pub mod Answers
 pub mod Asked
+pub mod Call
 pub mod Checking
 pub mod Chosen
 pub mod Configured
 pub mod Fetch
 pub mod Named
 pub mod Refs
+pub mod Repository
 pub mod Stops
 pub mod Texts
 pub mod Tracking

@@ -15,6 +15,7 @@ mod notes;
 mod plan;
 mod refs;
 mod remotes;
+mod repository;
 mod sources;
 mod specs;
 mod stops;
