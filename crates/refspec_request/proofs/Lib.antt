@@ -1,7 +1,7 @@
 pub mod ArgumentLemmas
 mod BooleanLemmas
 mod ChoiceLemmas
-mod FetchLemmas
+pub mod FetchLemmas
 mod RefusalLemmas
 mod RemoteLemmas
 pub mod SettingLemmas

@@ -14,20 +14,29 @@ use Rattle.refspec_io.specs.declared.settings.Setting.{Setting}
 use Rattle.refspec_request.specs.declared.remotes.OldRemote.{OldRemote}
 use Rattle.refspec_request.specs.Settings.{IsKeyWhere, joined_key, settings_with, value_in, value_of_last}
 
+-- the setting is one of this name in a section
+abbrev pub IsOfName : (section : List ℕ) → List ℕ → Setting → Type 0
+IsOfName section name s = IsKeyWhere section (λ other variable. other ≡ name) s.key.now
+
 -- the setting is one of the remote with this name
 abbrev pub IsOfRemote : List ℕ → Setting → Type 0
-IsOfRemote name s = IsKeyWhere (codes "remote") (λ other variable. other ≡ name) s.key.now
+IsOfRemote name s = IsOfName (codes "remote") name s
 
 -- some setting is one of the remote
 abbrev pub IsConfigured : List Setting → List ℕ → Type 0
 IsConfigured settings name = Any (IsOfRemote name) settings
 
+-- each name in a section has its settings of a variable, in order, and no other name has any
+abbrev pub AreValuesBy : (section variable : List ℕ) → List Setting → BTreeMap (Bor (List ℕ)) (Vec Setting) → Type 0
+AreValuesBy section variable settings values =
+    (name : List ℕ) → MatchOption (get_by (λ k. slice_cmp nat_cmp name k.now) values)
+    (¬ (Any (IsOfName section name) settings))
+    (λ named. Any (IsOfName section name) settings
+    × (named.items ≡ settings_with (joined_key section name variable) settings))
+
 -- each name of a remote has its values of remote.<name>.fetch, in order, and no other name has any
 abbrev pub AreFetchValues : List Setting → BTreeMap (Bor (List ℕ)) (Vec Setting) → Type 0
-AreFetchValues settings remotes = (name : List ℕ) → MatchOption (get_by (λ k. slice_cmp nat_cmp name k.now) remotes)
-    (¬ (IsConfigured settings name))
-    (λ values. IsConfigured settings name
-    × (values.items ≡ settings_with (joined_key (codes "remote") name (codes "fetch")) settings))
+AreFetchValues settings remotes = AreValuesBy (codes "remote") (codes "fetch") settings remotes
 
 -- the setting is one of a remote of another name
 abbrev pub IsOfOther : List ℕ → Setting → Type 0

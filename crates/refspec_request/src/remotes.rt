@@ -4,8 +4,8 @@ ghost use Rattle.std.specs.Prelude.{◌≡◌, ◌⊎◌, ◌↔◌, ◌++◌, �
 ghost use Rattle.std.specs.Prelude.{cond, length, option_map};
 ghost use Rattle.std.specs.List.{Any};
 ghost use Rattle.std.specs.Str.{bytes_eq};
-ghost use Rattle.gix_refspec_text.specs.Texts.Words.{BeginsWith};
-ghost use Rattle.refspec_request.specs.Remotes.{AreFetchValues, IsConfigured, IsDefault, IsGroup, IsIgnored, IsInFile};
+ghost use Rattle.gix_refspec_text.specs.Texts.Words.{BeginsWith, Lacks};
+ghost use Rattle.refspec_request.specs.Remotes.{AreFetchValues, AreValuesBy, IsConfigured, IsDefault, IsGroup, IsIgnored, IsInFile};
 ghost use Rattle.refspec_request.specs.Remotes.{IsInsteadOf, IsLocated, IsOfOther, IsOfRemote, IsOnly, IsOnlyOrOrigin};
 ghost use Rattle.refspec_request.specs.Remotes.{Rewrites, SaysWhere, is_between, listed_in, members_text};
 
@@ -29,42 +29,60 @@ pub fn fetch_values<'a>(
 ) -> Result<BTreeMap<&'a [u8], Vec<Setting<'a>>>, AllocError>
     ensures { IfOk result (AreFetchValues settings.now) }
 {
-    let mut remotes = BTreeMap::new(alloc);
-    for setting in settings {
-        add_setting(alloc, &mut remotes, setting)?;
-    }
-    Ok(remotes)
+    values_by_name(alloc, settings, b"remote", b"fetch")
 }
 
-// Adds a setting to the fetch values of remotes, if it is one of a remote.
+/// The names in settings `SECTION.NAME.OTHER`, sorted, each with its settings `SECTION.NAME.VARIABLE` in order. Fails if
+/// memory runs out.
+pub fn values_by_name<'a>(
+    alloc: Global,
+    settings: &[Setting<'a>],
+    section: &[u8],
+    variable: &[u8],
+) -> Result<BTreeMap<&'a [u8], Vec<Setting<'a>>>, AllocError>
+    requires { Lacks 46 variable.now }
+    ensures { IfOk result (AreValuesBy section.now variable.now settings.now) }
+{
+    let mut values = BTreeMap::new(alloc);
+    for setting in settings {
+        add_setting(alloc, section, variable, setting, &mut values)?;
+    }
+    Ok(values)
+}
+
+// Adds a setting to those of its name, if it is one of the section.
 fn add_setting<'a>(
     alloc: Global,
-    remotes: &mut BTreeMap<&'a [u8], Vec<Setting<'a>>>,
+    section: &[u8],
+    variable: &[u8],
     setting: &Setting<'a>,
+    values: &mut BTreeMap<&'a [u8], Vec<Setting<'a>>>,
 ) -> Result<(), AllocError>
-    ensures { (seen : List Setting) → AreFetchValues seen remotes.old → OnOk result
-        (AreFetchValues (seen ++ setting.now ∷ []) remotes.new) }
+    requires { Lacks 46 variable.now }
+    ensures { (seen : List Setting) → AreValuesBy section.now variable.now seen values.old → OnOk result
+        (AreValuesBy section.now variable.now (seen ++ setting.now ∷ []) values.new) }
 {
-    let Some(parts) = name_and_variable(b"remote", setting.key) else {
+    let Some(parts) = name_and_variable(section, setting.key) else {
         return Ok(());
     };
-    let (name, variable) = parts;
-    let mut values = remotes.remove(name).unwrap_or(Vec::new(alloc));
-    add_value(&mut values, variable, setting)?;
-    remotes.insert(name, values)?;
+    let (name, own) = parts;
+    let mut named = values.remove(name).unwrap_or(Vec::new(alloc));
+    add_value(&mut named, variable, own, setting)?;
+    values.insert(name, named)?;
     Ok(())
 }
 
-// Adds a setting to the fetch values of its remote, if it is one.
+// Adds a setting to the values of its name, if its own variable is the one asked for.
 fn add_value<'a>(
     values: &mut Vec<Setting<'a>>,
     variable: &[u8],
+    own: &[u8],
     setting: &Setting<'a>,
 ) -> Result<(), AllocError>
     ensures { OnOk result (values.new.items
-        ≡ values.old.items ++ cond (bytes_eq variable.now (codes "fetch")) (setting.now ∷ []) []) }
+        ≡ values.old.items ++ cond (bytes_eq own.now variable.now) (setting.now ∷ []) []) }
 {
-    if variable == b"fetch".as_slice() {
+    if own == variable {
         values.push(*setting)?;
     }
     Ok(())
