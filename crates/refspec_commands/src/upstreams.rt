@@ -13,7 +13,7 @@ pub mod question;
 pub mod report;
 
 use crate::upstreams::answer::answer_to;
-use crate::upstreams::question::{Merged, Question};
+use crate::upstreams::question::{Merged, Question, Setup};
 use crate::upstreams::report::report_answer;
 use bstr::BStr;
 use gix_refspec::RefSpecRef;
@@ -54,6 +54,7 @@ fn merged_refs<'q, 'spec>(
             remote: None,
             specs,
             name: name.as_bytes(),
+            setup: Setup::Remote,
         })?;
     }
     Ok(merged)

@@ -1,7 +1,7 @@
 //! What would give a branch an upstream.
 
 use crate::upstreams::answer::text_at;
-use crate::upstreams::question::Merged;
+use crate::upstreams::question::{Merged, Setup};
 use bstr::{BStr, BString};
 use gix_refspec::parsing::{Error, Operation};
 use gix_refspec::{RefSpecRef, parse};
@@ -31,20 +31,35 @@ pub(crate) enum Why {
     NotFetched,
 }
 
-impl Why {
-    // The sentence that says so.
-    pub(crate) fn message(self) -> &'static str {
-        match self {
-            Why::Excluded => "There is no upstream, as a negative spec excludes the merged ref.",
-            Why::NotStored => "There is no upstream, as the merged ref is fetched, but not stored.",
-            Why::NotFetched => "There is no upstream, as no spec fetches the merged ref.",
+impl Lack<'_, '_, '_> {
+    // The sentence that says why.
+    pub(crate) fn message(&self) -> &'static str {
+        match (self.merged.setup, self.why) {
+            (Setup::NoMerge, _) => "There is no upstream, as the branch has no merge value.",
+            (Setup::NoRemote, _) => "There is no upstream, as the branch has no remote.",
+            (_, Why::Excluded) => {
+                "There is no upstream, as a negative spec excludes the merged ref."
+            }
+            (_, Why::NotStored) => {
+                "There is no upstream, as the merged ref is fetched, but not stored."
+            }
+            (_, Why::NotFetched) => "There is no upstream, as no spec fetches the merged ref.",
         }
+    }
+
+    // Whether the branch merges no ref.
+    pub(crate) fn has_no_ref(&self) -> bool {
+        matches!(self.merged.setup, Setup::NoMerge)
     }
 }
 
 // What to do to give a branch an upstream, in a line.
 pub(crate) fn advice_on(alloc: Global, lack: &Lack<'_, '_, '_>) -> Result<Vec<u8>, AllocError> {
     let mut advice = Vec::new(alloc);
+    if is_unset(lack.merged.setup) {
+        write_setting(lack.merged, &mut advice)?;
+        return Ok(advice);
+    }
     match (lack.why, lack.spec) {
         (Why::Excluded, Some(text)) => {
             advice.extend_from_slice(b"Leave out ")?;
@@ -54,6 +69,32 @@ pub(crate) fn advice_on(alloc: Global, lack: &Lack<'_, '_, '_>) -> Result<Vec<u8
         _ => write_value(alloc, lack.merged, &mut advice)?,
     }
     Ok(advice)
+}
+
+// Whether the configuration of a branch has no remote, or nothing that it merges.
+fn is_unset(setup: Setup<'_>) -> bool {
+    matches!(setup, Setup::NoRemote | Setup::NoMerge)
+}
+
+// Appends how to set the remote of a branch, and what it merges.
+fn write_setting(merged: &Merged<'_, '_>, out: &mut Vec<u8>) -> Result<(), AllocError> {
+    let branch = merged.branch.unwrap_or(b"".as_slice());
+    match merged.setup {
+        Setup::NoRemote => {
+            out.extend_from_slice(b"`git config branch.")?;
+            write_in_message(out, branch)?;
+            out.extend_from_slice(b".remote NAME` sets one.")
+        }
+        _ => {
+            out.extend_from_slice(b"`git branch --set-upstream-to REF ")?;
+            write_in_message(out, branch)?;
+            out.extend_from_slice(b"` sets it, where REF is a tracking ref such as ")?;
+            write_in_message(out, merged.remote.unwrap_or(b"origin".as_slice()))?;
+            out.push(b'/')?;
+            write_in_message(out, branch)?;
+            Ok(out.push(b'.')?)
+        }
+    }
 }
 
 const NO_NAME: &[u8] = b"Give the name of a ref: this is none.";
@@ -71,16 +112,69 @@ fn write_value(
     let spec = match parse(alloc, value.as_bstr(), Operation::Fetch) {
         Ok(spec) => spec,
         Err(Error::Memory) => return Err(AllocError),
-        Err(_) => return out.extend_from_slice(NO_NAME),
+        Err(_) => return write_refused(alloc, merged, out),
     };
     match excluding_with(alloc, merged.specs, spec, merged.name)? {
         Some(index) => {
             let text = text_at(alloc, merged.specs, Some(index))?;
             out.extend_from_slice(b"Leave out ")?;
             write_in_message(out, text.as_bytes())?;
-            write_addition(b", and add a spec such as ", value.as_bytes(), out)
+            match merged.remote {
+                None => write_addition(b", and add a spec such as ", value.as_bytes(), out),
+                Some(remote) => {
+                    out.extend_from_slice(b"; ")?;
+                    write_command(remote, merged, value.as_bytes(), out)
+                }
+            }
         }
-        None => write_addition(b"Add a spec such as ", value.as_bytes(), out),
+        None => match merged.remote {
+            None => write_addition(b"Add a spec such as ", value.as_bytes(), out),
+            Some(remote) => write_command(remote, merged, value.as_bytes(), out),
+        },
+    }
+}
+
+// Appends the command that adds a value to a remote: by the name of a branch, if the remote has values, else by its text.
+fn write_command(
+    remote: &[u8],
+    merged: &Merged<'_, '_>,
+    value: &[u8],
+    out: &mut Vec<u8>,
+) -> Result<(), AllocError> {
+    match merged.name.strip_prefix(b"refs/heads/") {
+        Some(branch) if !merged.specs.is_empty() => {
+            out.extend_from_slice(b"`git remote set-branches --add ")?;
+            write_in_message(out, remote)?;
+            out.push(b' ')?;
+            write_in_message(out, branch)?;
+        }
+        _ => {
+            out.extend_from_slice(b"`git config --add remote.")?;
+            write_in_message(out, remote)?;
+            out.extend_from_slice(b".fetch ")?;
+            write_in_message(out, value)?;
+        }
+    }
+    out.extend_from_slice(b"` adds a value that stores it.")
+}
+
+// Appends that the merged ref has no valid name, or else the remote none below which refs can be stored.
+fn write_refused(
+    alloc: Global,
+    merged: &Merged<'_, '_>,
+    out: &mut Vec<u8>,
+) -> Result<(), AllocError> {
+    let Some(remote) = merged.remote else {
+        return out.extend_from_slice(NO_NAME);
+    };
+    match parse(alloc, BStr::new(merged.name), Operation::Fetch) {
+        Err(Error::Memory) => Err(AllocError),
+        Err(_) => out.extend_from_slice(NO_NAME),
+        Ok(_) => {
+            out.extend_from_slice(b"Give the remote a name: `git remote add NAME ")?;
+            write_in_message(out, remote)?;
+            out.extend_from_slice(b"`, and set it as the remote of the branch.")
+        }
     }
 }
 

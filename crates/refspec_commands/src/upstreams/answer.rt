@@ -5,9 +5,9 @@ ghost use Rattle.std.specs.List.{All, AllZip, Any};
 ghost use Rattle.bstr.specs.Owned.{bstring_bytes};
 ghost use Rattle.gix_refspec.specs.Views.Spec.{reading_of};
 ghost use Rattle.gix_refspec_remote.specs.Views.{shown};
-ghost use Rattle.refspec_commands.specs.Upstreams.{HasUpstream, IsFound, IsStatus, IsTextAt, spec_named};
+ghost use Rattle.refspec_commands.specs.Upstreams.{FindsUpstream, HasUpstream, IsFound, IsHere, IsStatus, IsTextAt, spec_named};
 
-use crate::upstreams::question::{Merged, Question};
+use crate::upstreams::question::{Merged, Question, Setup};
 use bstr::{BStr, BString};
 use gix_refspec::RefSpecRef;
 use gix_refspec_remote::{Upstream, upstream_of};
@@ -20,7 +20,7 @@ pub struct Answer<'q, 'spec> {
     pub found: Vec<Found<'q, 'spec>>,
 }
 
-/// The upstream of a branch, or why it has none.
+/// The upstream of a branch, or why it has none. A branch that merges from this repository always has one.
 #[derive(Debug, Drop)]
 pub struct Found<'q, 'spec> {
     /// The ref that it merges.
@@ -44,24 +44,37 @@ impl Answer<'_, '_> {
 // Whether each branch has an upstream.
 fn has_all(found: &[Found<'_, '_>]) -> bool
     ensures { MatchBool result
-        (All (λ f. HasUpstream (shown f.upstream)) found.now)
-        (Any (λ f. ¬ (HasUpstream (shown f.upstream))) found.now) }
+        (All FindsUpstream found.now)
+        (Any (λ f. ¬ (FindsUpstream f)) found.now) }
 {
     for one in found {
-        if !has_upstream(&one.upstream) {
+        if !has_upstream(one.merged.setup, &one.upstream) {
             return false;
         }
     }
     true
 }
 
-// Whether a merged ref has an upstream.
-fn has_upstream(upstream: &Upstream<'_>) -> bool
-    ensures { MatchBool result (HasUpstream (shown upstream.now)) (¬ (HasUpstream (shown upstream.now))) }
+// Whether a branch has an upstream.
+fn has_upstream(setup: Setup<'_>, upstream: &Upstream<'_>) -> bool
+    ensures { MatchBool result (HasUpstream setup.entry (shown upstream.now))
+        (¬ (HasUpstream setup.entry (shown upstream.now))) }
 {
     match upstream {
         Upstream::Tracked { .. } => true,
-        Upstream::Excluded { .. } | Upstream::NotStored { .. } | Upstream::NotFetched => false,
+        Upstream::Excluded { .. } => is_here(setup),
+        Upstream::NotStored { .. } => is_here(setup),
+        Upstream::NotFetched => is_here(setup),
+    }
+}
+
+// Whether a branch merges from this repository.
+fn is_here(setup: Setup<'_>) -> bool
+    ensures { MatchBool result (IsHere setup.entry) (¬ (IsHere setup.entry)) }
+{
+    match setup {
+        Setup::Here(_) => true,
+        Setup::Remote | Setup::NoRemote | Setup::NoMerge => false,
     }
 }
 

@@ -1,14 +1,15 @@
 //! The report on upstreams, for a call that names branches or none.
 
-ghost use Rattle.std.specs.Prelude.{◌≡◌, ◌++◌, OnOk};
+ghost use Rattle.std.specs.Prelude.{◌≡◌, ◌++◌, [], OnOk, option_map, unwrap_or};
 ghost use Rattle.refspec_io.specs.Rows.{WritesLine, fields};
 ghost use Rattle.refspec_io.specs.declared.call.Form.TheVariants as form;
 ghost use Rattle.refspec_commands.specs.Each.{AddsOne};
 ghost use Rattle.refspec_commands.specs.Upstreams.{AddsAnswer, IsReported, IsRow, row_of};
-ghost use Rattle.refspec_commands.specs.UpstreamViews.{IsLackOf, tracking_of};
+ghost use Rattle.refspec_commands.specs.UpstreamViews.{IsLackOf, IsOtherOf, tracking_of};
 
 use crate::upstreams::advice::{Lack, Why, advice_on};
 use crate::upstreams::answer::{Answer, Found};
+use crate::upstreams::question::Setup;
 use gix_refspec_remote::Upstream;
 use refspec_io::call::Form;
 use refspec_io::fields::write_field;
@@ -18,8 +19,8 @@ use refspec_io::report::Report;
 use refspec_io::table::Layout;
 use std::alloc::{AllocError, Global};
 
-/// Reports the upstream of each branch, with the spec that stores it; and for each branch without one why, and what
-/// would give it one. Fails if memory runs out.
+/// Reports the upstream of each branch, with the spec that stores it, or none if it is the merged ref itself; and for each
+/// branch without one why, and what would give it one. Fails if memory runs out.
 pub fn report_answer(
     alloc: Global,
     answer: &Answer<'_, '_>,
@@ -41,8 +42,20 @@ struct Row<'r> {
     branch: Option<&'r [u8]>,
     name: &'r [u8],
     merged: &'r [u8],
-    // The canonical text of the spec.
-    text: &'r [u8],
+    // The canonical text of the spec, if one stores the ref.
+    text: Option<&'r [u8]>,
+}
+
+impl<'r> Row<'r> {
+    // The text of the spec; empty without one.
+    fn text(&self) -> &'r [u8]
+        ensures { result.now ≡ unwrap_or (option_map (λ t. t.now) self.now.text) [] }
+    {
+        match self.text {
+            None => b"",
+            Some(text) => text,
+        }
+    }
 }
 
 // The columns of a table.
@@ -51,6 +64,23 @@ struct Columns {
     // The width of the widest name of a branch.
     branch: usize,
     rest: Layout,
+}
+
+impl Columns {
+    // Makes room for a row.
+    fn add(&mut self, alloc: Global, row: &Row<'_>) -> Result<(), AllocError> {
+        let layout = &mut self.rest;
+        if let Some(branch) = row.branch {
+            self.branch = self.branch.max(layout.width_of(alloc, branch)?);
+        }
+        let name = layout.width_of(alloc, row.name)?;
+        let merged = layout.width_of(alloc, row.merged)?;
+        let text = layout.width_of(alloc, row.text())?;
+        layout.first = layout.first.max(name);
+        layout.second = layout.second.max(merged);
+        layout.last = layout.last.max(text);
+        Ok(())
+    }
 }
 
 // Measures the columns of a table; all are empty in another form.
@@ -63,20 +93,28 @@ fn columns_of(alloc: Global, form: Form, found: &[Found<'_, '_>]) -> Result<Colu
         return Ok(columns);
     }
     for one in found {
-        if let Upstream::Tracked { name, .. } = &one.upstream {
-            let layout = &mut columns.rest;
-            if let Some(branch) = one.merged.branch {
-                columns.branch = columns.branch.max(layout.width_of(alloc, branch)?);
-            }
-            let name = layout.width_of(alloc, name.as_bstr().as_bytes())?;
-            let merged = layout.width_of(alloc, one.merged.name)?;
-            let text = layout.width_of(alloc, one.text.as_bytes())?;
-            layout.first = layout.first.max(name);
-            layout.second = layout.second.max(merged);
-            layout.last = layout.last.max(text);
+        if let Some(row) = row_for(one) {
+            columns.add(alloc, &row)?;
         }
     }
     Ok(columns)
+}
+
+// The row of a branch with an upstream.
+fn row_for<'r>(found: &'r Found<'_, '_>) -> Option<Row<'r>> {
+    let (name, text) = match (&found.upstream, found.merged.setup) {
+        (Upstream::Tracked { name, .. }, _) => {
+            (name.as_bstr().as_bytes(), Some(found.text.as_bytes()))
+        }
+        (_, Setup::Here(name)) => (name, None),
+        _ => return None,
+    };
+    Some(Row {
+        branch: found.merged.branch,
+        name,
+        merged: found.merged.name,
+        text,
+    })
 }
 
 // Reports an upstream, or why there is none.
@@ -98,7 +136,7 @@ fn report_found(
                 branch: merged.branch,
                 name: name.as_bstr().as_bytes(),
                 merged: merged.name,
-                text,
+                text: Some(text),
             };
             write_row(alloc, report.form, columns, &row, &mut report.results)
         }
@@ -108,7 +146,7 @@ fn report_found(
                 spec: Some(text),
                 why: Why::Excluded,
             };
-            report_lack(alloc, &lack, report)
+            report_other(alloc, columns, &lack, report)
         }
         Upstream::NotStored { .. } => {
             let lack = Lack {
@@ -116,7 +154,7 @@ fn report_found(
                 spec: Some(text),
                 why: Why::NotStored,
             };
-            report_lack(alloc, &lack, report)
+            report_other(alloc, columns, &lack, report)
         }
         Upstream::NotFetched => {
             let lack = Lack {
@@ -124,8 +162,36 @@ fn report_found(
                 spec: None,
                 why: Why::NotFetched,
             };
-            report_lack(alloc, &lack, report)
+            report_other(alloc, columns, &lack, report)
         }
+    }
+}
+
+// Reports the merged ref itself as the upstream, if the branch merges from this repository; else that there is none.
+fn report_other(
+    alloc: Global,
+    columns: &Columns,
+    lack: &Lack<'_, '_, '_>,
+    report: &mut Report,
+) -> Result<(), AllocError>
+    ensures form { OnOk result (report.new.form ≡ report.old.form) }
+    ensures reported { OnOk result (AddsOne (IsOtherOf report.old.form) lack.now
+        report.old.results.items report.new.results.items) }
+{
+    let merged = lack.merged;
+    match merged.setup {
+        Setup::Here(name) => {
+            let row = Row {
+                branch: merged.branch,
+                name,
+                merged: merged.name,
+                text: None,
+            };
+            write_row(alloc, report.form, columns, &row, &mut report.results)
+        }
+        Setup::Remote => report_lack(alloc, lack, report),
+        Setup::NoRemote => report_lack(alloc, lack, report),
+        Setup::NoMerge => report_lack(alloc, lack, report),
     }
 }
 
@@ -175,7 +241,7 @@ fn write_cells(
 {
     layout.write_cell(alloc, out, row.name, layout.first)?;
     layout.write_cell(alloc, out, row.merged, layout.second)?;
-    layout.write_field(out, row.text)?;
+    layout.write_field(out, row.text())?;
     Ok(out.push(b'\n')?)
 }
 
@@ -198,7 +264,7 @@ fn write_fields(row: &Row<'_>, out: &mut Vec<u8>) -> Result<(), AllocError>
 {
     write_field(out, row.name)?;
     write_field(out, row.merged)?;
-    write_field(out, row.text)
+    write_field(out, row.text())
 }
 
 // Appends a row as an object, in a line.
@@ -208,8 +274,8 @@ fn write_object(alloc: Global, row: &Row<'_>, out: &mut Vec<u8>) -> Result<(), A
     let branch = json::text_or_none(alloc, row.branch)?;
     let merge = json::text_of(alloc, row.merged)?;
     let name = json::text_of(alloc, row.name)?;
-    let text = json::text_of(alloc, row.text)?;
-    let spec = Some(text.as_str());
+    let text = json::text_or_none(alloc, row.text)?;
+    let spec = text.as_deref();
     let object = refspec_json::Upstream {
         branch: branch.as_deref(),
         merge: merge.as_str(),
@@ -256,7 +322,7 @@ fn write_lack(
         branch: branch.as_deref(),
         merge: merge.as_str(),
         spec: spec.as_deref(),
-        message: lack.why.message(),
+        message: lack.message(),
         advice: advice.as_str(),
     };
     object.write_line(alloc, out)
@@ -269,9 +335,11 @@ fn write_message(lack: &Lack<'_, '_, '_>, out: &mut Vec<u8>) -> Result<(), Alloc
         write_in_message(out, branch)?;
         out.extend_from_slice(b": ")?;
     }
-    write_in_message(out, lack.merged.name)?;
-    out.extend_from_slice(b": ")?;
-    out.extend_from_slice(lack.why.message().as_bytes())?;
+    if !lack.has_no_ref() {
+        write_in_message(out, lack.merged.name)?;
+        out.extend_from_slice(b": ")?;
+    }
+    out.extend_from_slice(lack.message().as_bytes())?;
     out.push(b'\n')?;
     if let Some(text) = lack.spec {
         out.extend_from_slice(b"    ")?;

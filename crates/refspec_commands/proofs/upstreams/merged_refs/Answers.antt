@@ -15,7 +15,8 @@ pub loop-name-preserved : goal.loop-name-preserved
 loop-name-preserved c =
     zip_mapped (IsAsked (map reading_of c.args.specs.now)) bstr_bytes c.args.names.now c.loop-name.name-index _
     c.loop-name.merged.items c.push.new.self.items _ c.loop-name-test.true c.loop-name.invariant
-    (record { branch = refl; remote = refl; specs = refl; name = c.as_bytes.ensures }) c.in_ok-push.ensures.items
+    (record { branch = refl; remote = refl; specs = refl; name = c.as_bytes.ensures; setup = refl })
+    c.in_ok-push.ensures.items
 
 pub returns : goal.returns
 returns c = zip_mapped_all (IsAsked (map reading_of c.args.specs.now)) bstr_bytes c.args.names.now

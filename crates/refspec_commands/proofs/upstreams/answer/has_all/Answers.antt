@@ -2,9 +2,8 @@
 use Rattle.std.proofs.Common.{List, take_all, sym, subst}
 use Rattle.std.proofs.lemmas.List.Elements.{All-more}
 use Rattle.std.specs.List.{All}
-use Rattle.gix_refspec_remote.specs.Views.{shown}
 use Rattle.refspec_commands.specs.declared.upstreams.answer.Found.{Found}
-use Rattle.refspec_commands.specs.Upstreams.{HasUpstream}
+use Rattle.refspec_commands.specs.Upstreams.{FindsUpstream}
 use Rattle.refspec_commands.proofs.upstreams.answer.has_all.Goals as goal
 
 pub returns-then-not-has_upstream : goal.returns-then-not-has_upstream
@@ -19,10 +18,10 @@ returns-then-not-has_upstream c = (
 pub loop-one-preserved : goal.loop-one-preserved
 loop-one-preserved c =
     let has = rw c.if-not-has_upstream.false at c.has_upstream.ensures in
-    All-more (λ (x : Found). HasUpstream (shown x.upstream)) c.args.found.now c.loop-one.one-index c.one-item.result
+    All-more FindsUpstream c.args.found.now c.loop-one.one-index c.one-item.result
     c.loop-one-test.true c.loop-one.invariant
-    (subst (λ (x : Found). HasUpstream (shown x.upstream)) c.one-item.is has)
+    (subst FindsUpstream c.one-item.is has)
 
 pub returns : goal.returns
-returns c = subst (λ (l : List Found). All (λ x. HasUpstream (shown x.upstream)) l)
+returns c = subst (λ (l : List Found). All FindsUpstream l)
     (take_all c.loop-one.one-index c.args.found.now c.loop-one-test.false) c.loop-one.invariant
