@@ -4,7 +4,7 @@ _git_refspec() {
     local number command=""
     for ((number = __git_cmd_idx + 1; number < cword; number++)); do
         case ${words[number]} in
-        check | plan | stale | track | prefixes)
+        check | plan | stale | track | upstream | prefixes)
             command=${words[number]}
             break
             ;;
@@ -16,12 +16,14 @@ _git_refspec() {
     fi
     case $command,$cur in
     ,--*) __gitcomp "--json --remote --help --version" ;;
-    ,*) __gitcomp "check plan stale track prefixes" ;;
+    ,*) __gitcomp "check plan stale track upstream prefixes" ;;
     check,--*) __gitcomp "--json --verbose --push --strict --no-warnings --remote --help" ;;
     plan,--*) __gitcomp "--json --long --all --prune --refmap --remote --help" ;;
     prefixes,--*) __gitcomp "--json --patterns --remote --help" ;;
+    upstream,--*) __gitcomp "--json --help" ;;
     *,--*) __gitcomp "--json --remote --help" ;;
     track,*) __git_complete_refs ;;
+    upstream,*) __gitcomp_nl "$(__git_heads)" ;;
     *) __gitcomp_nl "$(__git_remotes)" ;;
     esac
 }

@@ -81,6 +81,23 @@ PRUNED = [
     ([*BRANCH_VALUES, "+refs/heads/gone:refs/x/gone"], {}, [], [GONE, "refs/x/gone"], set()),
     ([*BRANCH_VALUES, "+refs/tags/noted:refs/remotes/origin/main"], {}, [], [GONE], set()),
 ]
+# The fetch values of the remotes of branches.
+REMOTE_VALUES = {
+    "origin": ["+refs/heads/*:refs/remotes/origin/*", "^refs/heads/wip/*"],
+    "mirror": ["+refs/heads/*:refs/heads/*", "^refs/heads/x"],
+    "few": ["refs/heads/main:refs/x/main", "refs/heads/other", "dev:refs/x/dev", "refs/heads/*:refs/y/*"],
+    "out": ["+refs/heads/main:refs/z/main", "^refs/heads/main"],
+    "none": [],
+}
+# The values of branch.NAME.remote and branch.NAME.merge of branches, whose upstreams Git has to find as they are listed.
+BRANCHES_OF = [
+    (["origin"], ["refs/heads/main"]), (["origin"], ["refs/heads/wip/a"]), (["origin"], ["main"]), (["origin"], ["refs/tags/v1"]),
+    (["origin"], ["refs/heads/b", "refs/heads/c"]), (["none", "origin"], ["refs/heads/main"]), (["origin", "none"], ["refs/heads/main"]),
+    (["mirror"], ["refs/heads/x"]), (["mirror"], ["refs/heads/z"]), (["few"], ["refs/heads/main"]), (["few"], ["refs/heads/other"]),
+    (["few"], ["refs/heads/dev"]), (["few"], ["dev"]), (["out"], ["refs/heads/main"]), (["nosuch"], ["refs/heads/main"]),
+    (["https://h/x"], ["refs/heads/main"]), ([], ["refs/heads/main"]), (["origin"], []), (["origin"], [""]), ([""], ["refs/heads/main"]),
+    (["."], ["refs/heads/here"]), (["."], ["refs/heads/nosuch"]), (["."], ["refs/tags/t"]), (["."], ["nosuch"]),
+]
 # What FETCH_HEAD calls a ref.
 KINDS = ((b"branch '", b"refs/heads/"), (b"tag '", b"refs/tags/"), (b"remote-tracking branch '", b"refs/remotes/"), (b"'", b""))
 # A line of a dry run: what becomes of a ref, its name on the remote and the one here, both without the usual folders.
@@ -297,6 +314,29 @@ class Repositories:
             stop(f"{specs}: the plan and {what} differ by {sorted(planned ^ written)[:5]}")
 
 
+def check_upstreams(program):
+    """The upstreams of branches are those that Git finds."""
+    with tempfile.TemporaryDirectory() as folder:
+        made = Repositories(folder, program)
+        settings = [(f"remote.{name}.fetch", value) for name, values in REMOTE_VALUES.items() for value in values]
+        for number, (remotes, merges) in enumerate(BRANCHES_OF):
+            settings += [(f"branch.b{number}.remote", remote) for remote in remotes]
+            settings += [(f"branch.b{number}.merge", merge) for merge in merges]
+        path = made.local("upstreams", [])
+        made.git(path, "commit", "-q", "--allow-empty", "-m", "one")
+        for key, value in settings:
+            made.git(path, "config", "--add", key, value)
+        names = ["here", *(f"b{number}" for number in range(len(BRANCHES_OF)))]
+        for name in names:
+            made.git(path, "update-ref", f"refs/heads/{name}", "HEAD")
+        lines = made.git(path, "for-each-ref", "--format=%(refname:lstrip=2)%00%(upstream)", "refs/heads").splitlines()
+        found = {tuple(line.split(b"\0")) for line in lines if not line.endswith(b"\0")}
+        for words in ([], names):
+            fields = made.run(path, "refspec", "upstream", "-z", *words).stdout.split(b"\0")[:-1]
+            made.differ(words, "Git", set(zip(fields[::4], fields[1::4])), found)
+    return len(found)
+
+
 def check_plans(program):
     with tempfile.TemporaryDirectory() as folder:
         made = Repositories(folder, program)
@@ -452,7 +492,7 @@ def examples(text):
 
 # Words, with the last one to complete, and some of what they are completed to.
 COMPLETIONS = (
-    ("git refspec ", ("check", "plan", "prefixes", "track")),
+    ("git refspec ", ("check", "plan", "prefixes", "track", "upstream")),
     ("git refspec pl", ("plan",)),
     ("git refspec plan or", ("origin",)),
     ("git refspec plan --j", ("--json",)),
@@ -461,6 +501,7 @@ COMPLETIONS = (
     ("git refspec prefixes --pat", ("--patterns",)),
     ("git refspec track origin/d", ("origin/dev",)),
     ("git refspec track --json refs/remotes/origin/t", ("refs/remotes/origin/topic/a",)),
+    ("git refspec upstream ma", ("main",)),
     ("git refspec plan --remote or", ("origin",)),
     ("git -C ../here refspec prefixes or", ("origin",)),
     ("git -C ../here refspec track origin/d", ("origin/dev",)),
@@ -553,9 +594,10 @@ def main():
         check_terminal(program, remote)
         check_old_git(program)
         shells = check_completion(program, remote)
+    upstreams = check_upstreams(program)
     written = check_plans(program)
     print(f"git-refspec: {calls} calls in {len(LOCALES)} locales; {commands} commands of the manual page; {len(PLANS)} plans as a "
-          f"dry run tells and Git fetches, of {written} refs; completed in {', '.join(shells) or 'no shell'}")
+          f"dry run tells and Git fetches, of {written} refs; {upstreams} upstreams as Git finds them; completed in {', '.join(shells) or 'no shell'}")
 
 
 if __name__ == "__main__":

@@ -51,6 +51,7 @@ GIT_OPTIONS = {
     "plan": ["-z", "--json", "--long", "--all", "--prune", "--refmap", "--remote"],
     "stale": ["-z", "--json", "--remote"],
     "track": ["-z", "--json", "--remote"],
+    "upstream": ["-z", "--json"],
     "prefixes": ["-z", "--json", "--patterns", "--remote"],
 }
 FILES = ("--specs", "--refs", "--configured", "--local")

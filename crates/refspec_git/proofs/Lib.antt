@@ -1,5 +1,6 @@
 mod AnswerLemmas
 mod AskedLemmas
+mod BranchLemmas
 mod CallLemmas
 mod CheckingLemmas
 mod ChosenLemmas
@@ -11,5 +12,6 @@ mod RefLemmas
 mod RepositoryLemmas
 mod StopsLemmas
 mod TrackingLemmas
+mod UpstreamLemmas
 mod WantedLemmas
 mod facts

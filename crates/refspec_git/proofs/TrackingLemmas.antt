@@ -9,7 +9,7 @@ use Rattle.refspec_io.specs.declared.settings.Setting.{Setting}
 use Rattle.refspec_git.specs.Tracking.{AddsRemote, AddsSpec, AreRemotesIn, AreSpecsIn}
 
 -- one value more
-AreSpecsIn-more : (values : List Setting) (s : Setting) (old new : List Reading) → AddsSpec s old new
+pub AreSpecsIn-more : (values : List Setting) (s : Setting) (old new : List Reading) → AddsSpec s old new
     → AreSpecsIn values old → AreSpecsIn (values ++ s ∷ []) new
 AreSpecsIn-more [] s old new (inl (r, reads, grown)) none =
     inl (r, [], reads, refl, grown ∙ ap (λ l. l ++ r ∷ []) none)

@@ -1,4 +1,5 @@
 pub mod AskedFacts
+pub mod BranchFacts
 pub mod CheckingFacts
 pub mod ChosenFacts
 pub mod ConfiguredFacts

@@ -1,5 +1,6 @@
 pub mod Answers
 pub mod Asked
+pub mod Branches
 pub mod Call
 pub mod Checking
 pub mod Chosen
@@ -11,5 +12,6 @@ pub mod Repository
 pub mod Stops
 pub mod Texts
 pub mod Tracking
+pub mod Upstreams
 pub mod Wanted
 pub mod World

@@ -1,6 +1,6 @@
 -- The settings at which Git stops, by git-config(1): one that needs a value and has none, and one that is read as a
--- boolean and is none. `git branch --track` doesn't read those of a fetch.
-use Rattle.std.specs.Prelude.{◌≡◌, ◌≢◌, ◌⊎◌, List, ◌∷◌, ◌++◌, None, Some}
+-- boolean and is none. Only commands that fetch read those of a fetch.
+use Rattle.std.specs.Prelude.{◌≡◌, ◌⊎◌, List, ◌∷◌, ◌++◌, None, Some, ⊤}
 use Rattle.std.specs.List.{All}
 use Rattle.refspec_io.specs.declared.settings.Setting.{Setting}
 use Rattle.refspec_request.specs.declared.arguments.Subcommand.{Subcommand}
@@ -11,10 +11,16 @@ use Rattle.refspec_request.specs.declared.refusal.Refusal.TheVariants as refusal
 use Rattle.refspec_request.specs.Booleans.{IsBooleanOfFetches, IsBooleanOfRemotes, Means}
 use Rattle.refspec_request.specs.Needed.{NeedsValue}
 
--- Git reads a setting as a boolean
+-- a command fetches, or says what a fetch does
+abbrev pub Fetches : Subcommand → Type 0
+Fetches command.Track = ⊥
+Fetches command.Upstream = ⊥
+Fetches _ = ⊤
+
+-- Git reads a setting as a boolean: those of a fetch only for these commands
 abbrev pub IsReadAsBoolean : Subcommand → Setting → Type 0
 IsReadAsBoolean c s =
-    IsBooleanOfRemotes s.key.now ⊎ ((c ≢ command.Track) × IsBooleanOfFetches s.key.now)
+    IsBooleanOfRemotes s.key.now ⊎ (Fetches c × IsBooleanOfFetches s.key.now)
 
 -- the refusal of a setting
 abbrev pub StopsAt : Subcommand → Setting → Refusal → Type 0

@@ -14,6 +14,7 @@ use crate::fetch::{report_fetch, report_prefixes};
 use crate::repository::{branch_of, counted_settings, is_path, line_of, old_remotes, printed_by};
 use crate::stops::bad_setting;
 use crate::tracking::report_tracking;
+use crate::upstreams::report_upstreams;
 use refspec_io::fault::Fault;
 use refspec_io::input::records;
 use refspec_request::arguments::{Purpose, Request, Subcommand, purpose_of};
@@ -179,6 +180,7 @@ fn answer_command<'a, M: Machine>(
 {
     match request.command {
         Subcommand::Track => report_tracking(alloc, machine, request, repository),
+        Subcommand::Upstream => Ok(report_upstreams(alloc, request, repository)?),
         _ => answer_fetching(alloc, machine, request, repository),
     }
 }

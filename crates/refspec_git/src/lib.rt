@@ -4,6 +4,7 @@
 
 mod advice;
 pub mod answer;
+mod branches;
 pub mod call;
 mod checking;
 mod chosen;
@@ -22,4 +23,5 @@ mod stops;
 mod texts;
 mod tracking;
 mod unsure;
+mod upstreams;
 mod warnings;

@@ -54,8 +54,8 @@ fn is_suffixed(argument: &[u8]) -> bool
     has_word(argument, b"@{") && !begins_with(argument, b"-") && !has_word(argument, b"\n")
 }
 
-// Whether an argument is a ref name that no option looks like.
-fn is_ref(argument: &[u8]) -> bool
+/// Whether an argument is a ref name that no option looks like.
+pub fn is_ref(argument: &[u8]) -> bool
     ensures { IsTrue result ↔ IsRef argument.now }
 {
     name::name_partial(BStr::new(argument)).is_ok() && !begins_with(argument, b"-")

@@ -148,8 +148,8 @@ fn specs_of<'a>(alloc: Global, values: &[Setting<'a>]) -> Result<Vec<RefSpecRef<
     Ok(specs)
 }
 
-// Adds the spec of a value, if it isn't refused.
-fn add_spec<'a>(
+/// Adds the spec of a value, if it isn't refused.
+pub fn add_spec<'a>(
     alloc: Global,
     value: &Setting<'a>,
     specs: &mut Vec<RefSpecRef<'a>>,

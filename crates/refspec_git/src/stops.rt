@@ -4,7 +4,7 @@ ghost use Rattle.std.specs.Prelude.{◌↔◌, IsTrue, MatchBool, MatchOption};
 ghost use Rattle.std.specs.List.{All};
 ghost use Rattle.refspec_request.specs.Booleans.{Means};
 ghost use Rattle.refspec_request.specs.declared.booleans.Boolean.TheVariants as boolean;
-ghost use Rattle.refspec_git.specs.Stops.{IsReadAsBoolean, Passes, StopsAt, StopsFirst};
+ghost use Rattle.refspec_git.specs.Stops.{Fetches, IsReadAsBoolean, Passes, StopsAt, StopsFirst};
 
 use refspec_io::settings::Setting;
 use refspec_request::arguments::Subcommand;
@@ -14,8 +14,8 @@ use refspec_request::booleans::{
 use refspec_request::needed::needs_value;
 use refspec_request::refusal::Refusal;
 
-/// Why Git stops at one of these settings: the first that lacks a value, or isn't a boolean. `git branch --track` doesn't
-/// read those of a fetch.
+/// Why Git stops at one of these settings: the first that lacks a value, or isn't a boolean. Only commands that fetch read
+/// those of a fetch.
 pub fn bad_setting<'a>(command: Subcommand, settings: &[Setting<'a>]) -> Option<Refusal<'a>>
     ensures { MatchOption result (All (Passes command) settings.now) (StopsFirst command settings.now) }
 {
@@ -45,8 +45,21 @@ fn refusal_of<'a>(command: Subcommand, setting: &Setting<'a>) -> Option<Refusal<
 fn is_boolean(command: Subcommand, setting: &Setting<'_>) -> bool
     ensures { IsTrue result ↔ IsReadAsBoolean command setting.now }
 {
-    is_boolean_of_remotes(setting)
-        || !matches!(command, Subcommand::Track) && is_boolean_of_fetches(setting)
+    is_boolean_of_remotes(setting) || fetches(command) && is_boolean_of_fetches(setting)
+}
+
+// Whether a command reads the settings of a fetch.
+fn fetches(command: Subcommand) -> bool
+    ensures { IsTrue result ↔ Fetches command }
+{
+    match command {
+        Subcommand::Track => false,
+        Subcommand::Upstream => false,
+        Subcommand::Check => true,
+        Subcommand::Plan => true,
+        Subcommand::Prefixes => true,
+        Subcommand::Stale => true,
+    }
 }
 
 // Whether a value is no boolean.

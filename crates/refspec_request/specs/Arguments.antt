@@ -27,7 +27,8 @@ command_named name =
     (cond (bytes_eq name (codes "plan")) (Some command.Plan)
     (cond (bytes_eq name (codes "track")) (Some command.Track)
     (cond (bytes_eq name (codes "prefixes")) (Some command.Prefixes)
-    (cond (bytes_eq name (codes "stale")) (Some command.Stale) None))))
+    (cond (bytes_eq name (codes "stale")) (Some command.Stale)
+    (cond (bytes_eq name (codes "upstream")) (Some command.Upstream) None)))))
 
 -- the name of a command
 abbrev pub name_of : Subcommand → List ℕ
@@ -36,6 +37,7 @@ name_of command.Plan = codes "plan"
 name_of command.Track = codes "track"
 name_of command.Prefixes = codes "prefixes"
 name_of command.Stale = codes "stale"
+name_of command.Upstream = codes "upstream"
 
 -- the options without a value, by their long names
 abbrev pub switch_named : List ℕ → Option Switch

@@ -15,6 +15,8 @@ refusal_status (refusal.BadBoolean origin key value) = 1
 refusal_status (refusal.NoValue origin key) = 1
 refusal_status refusal.NoValuesAtAll = 1
 refusal_status (refusal.NoValuesOf remote) = 1
+refusal_status refusal.NoMergedRef = 1
+refusal_status (refusal.NoBranchAtHead argument) = 1
 refusal_status refusal.OtherRefused = 1
 refusal_status refusal.Memory = 3
 refusal_status _ = 2
@@ -113,6 +115,10 @@ sentence_of (refusal.Group name settings) = group_sentence name.now settings.now
 sentence_of (refusal.BadBoolean origin key value) = boolean_sentence origin.now key.now value.now
 sentence_of (refusal.NoValue origin key) = value_sentence origin.now key.now
 sentence_of refusal.NoValuesAtAll = words (codes "no remote has fetch values") ∷ []
+sentence_of refusal.NoMergedRef = words (codes "no branch has a merge value, so none has an upstream") ∷ []
+sentence_of (refusal.NoBranchAtHead argument) = about [] argument.now (codes " does not point to a branch")
+sentence_of refusal.RemoteOfBranches = words
+    (codes "upstream takes branches and no --remote, as each branch has a remote of its own") ∷ []
 sentence_of (refusal.NoValuesOf remote) = about [] remote.now (codes " has no fetch values")
 sentence_of refusal.OtherRefused = words
     (codes "a value of another remote is refused, so Git uses none; `git refspec check` shows which") ∷ []
@@ -124,7 +130,8 @@ synopses = codes "usage: git refspec check [-v] [--push] [--strict] [--no-warnin
     ++ (codes "   or: git refspec plan [--long] [--all] [--prune] [--refmap <spec>]... [<remote>] [<spec>...]\n"
     ++ (codes "   or: git refspec stale [<remote>] [<spec>...]\n"
     ++ (codes "   or: git refspec track <ref>...\n"
-    ++ codes "   or: git refspec prefixes [--patterns] [<remote>] [<spec>...]\n")))
+    ++ (codes "   or: git refspec upstream [<branch>...]\n"
+    ++ codes "   or: git refspec prefixes [--patterns] [<remote>] [<spec>...]\n"))))
 
 abbrev pub advice_of : Refusal → List Piece
 advice_of refusal.NoCommand = words synopses ∷ []

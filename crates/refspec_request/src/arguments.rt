@@ -35,6 +35,8 @@ pub enum Subcommand {
     Prefixes,
     /// Lists the local refs that a pruning fetch deletes.
     Stale,
+    /// Reports the upstreams of branches.
+    Upstream,
 }
 
 impl Subcommand {
@@ -48,6 +50,7 @@ impl Subcommand {
             Subcommand::Track => "track",
             Subcommand::Prefixes => "prefixes",
             Subcommand::Stale => "stale",
+            Subcommand::Upstream => "upstream",
         }
     }
 }
@@ -220,6 +223,8 @@ fn command_named(name: &[u8]) -> Option<Subcommand>
         Some(Subcommand::Prefixes)
     } else if name == b"stale".as_slice() {
         Some(Subcommand::Stale)
+    } else if name == b"upstream".as_slice() {
+        Some(Subcommand::Upstream)
     } else {
         None
     }

@@ -30,6 +30,11 @@ const NO_DEFAULT: &str =
 
 const NOT_UTF8: &str = " is not UTF-8; give such a spec to refspec on its standard input";
 
+const NO_MERGED_REF: &str = "no branch has a merge value, so none has an upstream";
+
+const REMOTE_OF_BRANCHES: &str =
+    "upstream takes branches and no --remote, as each branch has a remote of its own";
+
 const OTHER_REFUSED: &str =
     "a value of another remote is refused, so Git uses none; `git refspec check` shows which";
 
@@ -95,6 +100,12 @@ pub enum Refusal<'a> {
     NoValuesAtAll,
     /// The remote of `--remote` has no fetch values.
     NoValuesOf(&'a [u8]),
+    /// No branch has a merge value.
+    NoMergedRef,
+    /// The argument that means the current branch, where there is none.
+    NoBranchAtHead(&'a [u8]),
+    /// `--remote` in a call that takes the remotes of branches.
+    RemoteOfBranches,
     /// A value of a remote that the arguments don't name is refused.
     OtherRefused,
     /// Memory ran out.
@@ -112,6 +123,8 @@ impl Refusal<'_> {
             | Refusal::NoValue { .. }
             | Refusal::NoValuesAtAll
             | Refusal::NoValuesOf(_)
+            | Refusal::NoMergedRef
+            | Refusal::NoBranchAtHead(_)
             | Refusal::OtherRefused => 1,
             Refusal::Memory => 3,
             _ => 2,
@@ -180,6 +193,11 @@ impl Refusal<'_> {
             Refusal::NoValue { origin, key } => write_no_value(out, origin, key),
             Refusal::NoValuesAtAll => write_words(out, "no remote has fetch values"),
             Refusal::NoValuesOf(remote) => write_about(out, "", remote, " has no fetch values"),
+            Refusal::NoMergedRef => write_words(out, NO_MERGED_REF),
+            Refusal::NoBranchAtHead(argument) => {
+                write_about(out, "", argument, " does not point to a branch")
+            }
+            Refusal::RemoteOfBranches => write_words(out, REMOTE_OF_BRANCHES),
             Refusal::OtherRefused => write_words(out, OTHER_REFUSED),
             Refusal::Memory => write_words(out, "out of memory"),
         }

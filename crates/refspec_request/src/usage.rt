@@ -6,6 +6,7 @@ pub const USAGE: &str =
    or: git refspec plan [--long] [--all] [--prune] [--refmap <spec>]... [<remote>] [<spec>...]
    or: git refspec stale [<remote>] [<spec>...]
    or: git refspec track <ref>...
+   or: git refspec upstream [<branch>...]
    or: git refspec prefixes [--patterns] [<remote>] [<spec>...]
 ";
 
@@ -15,6 +16,7 @@ pub const OPTIONS: &str = "
     plan                  show what git fetch would write
     stale                 list the refs here that git fetch --prune would delete
     track                 show which refs of which remotes tracking refs come from
+    upstream              show which tracking refs are the upstreams of branches
     prefixes              list the ref prefixes to ask the server for
 
     -z                    end each field with a zero byte

@@ -589,6 +589,31 @@ fn refuses_calls_without_a_remote(rt: HostRuntime) -> Result<(), Fail> {
 
 // As git-refspec(1) has them under DIAGNOSTICS.
 #[test]
+fn writes_the_messages_on_branches(rt: HostRuntime) -> Result<(), Fail> {
+    let refusals = [
+        (
+            Refusal::NoMergedRef,
+            "git refspec: no branch has a merge value, so none has an upstream\n",
+        ),
+        (
+            Refusal::NoBranchAtHead(b"@"),
+            "git refspec: @ does not point to a branch\n",
+        ),
+        (
+            Refusal::RemoteOfBranches,
+            "git refspec: upstream takes branches and no --remote, as each branch has a remote of its own\n",
+        ),
+    ];
+    for (refusal, wanted) in &refusals {
+        let mut message = Vec::new(rt.alloc());
+        refusal.write(&mut message)?;
+        assert_eq!(rt; message.as_slice(), wanted.as_bytes());
+    }
+    Ok(())
+}
+
+// As git-refspec(1) has them under DIAGNOSTICS.
+#[test]
 fn writes_the_messages_of_refusals(rt: HostRuntime) -> Result<(), Fail> {
     let refusals = [
         (
@@ -630,7 +655,7 @@ fn writes_the_messages_of_refusals(rt: HostRuntime) -> Result<(), Fail> {
         ),
         (
             Refusal::NoSuchOption(b"--x"),
-            "git refspec: there is no option --x\nusage: git refspec check [-v] [--push] [--strict] [--no-warnings] [<remote> | <spec>]...\n   or: git refspec plan [--long] [--all] [--prune] [--refmap <spec>]... [<remote>] [<spec>...]\n   or: git refspec stale [<remote>] [<spec>...]\n   or: git refspec track <ref>...\n   or: git refspec prefixes [--patterns] [<remote>] [<spec>...]\n",
+            "git refspec: there is no option --x\nusage: git refspec check [-v] [--push] [--strict] [--no-warnings] [<remote> | <spec>]...\n   or: git refspec plan [--long] [--all] [--prune] [--refmap <spec>]... [<remote>] [<spec>...]\n   or: git refspec stale [<remote>] [<spec>...]\n   or: git refspec track <ref>...\n   or: git refspec upstream [<branch>...]\n   or: git refspec prefixes [--patterns] [<remote>] [<spec>...]\n",
         ),
     ];
     for (refusal, wanted) in &refusals {
