@@ -352,11 +352,7 @@ pub fn call_of<'a>(
     name: &str,
     matches: &ArgMatches<'a>,
 ) -> Result<Call<'a>, AllocError> {
-    let refs = listed(alloc, matches, "ref")?;
-    let mut specs = listed(alloc, matches, "spec")?;
-    let count = specs.len();
-    specs.retain(|spec| *spec != INPUT);
-    let has_dash = specs.len() < count;
+    let (specs, has_dash) = specs_of(alloc, matches)?;
     let command = command_of(name);
     let reads_refs = has_refs(command);
     let file = matches.get_str("specs");
@@ -384,7 +380,7 @@ pub fn call_of<'a>(
             _ => reads_refs || has_dash || file.is_some() || specs.is_empty(),
         },
         specs,
-        refs,
+        refs: listed(alloc, matches, "ref")?,
         merges: merges_of(alloc, matches)?,
         remote: or_else(matches.get_str("old"), ""),
         new_remote: or_else(matches.get_str("new"), ""),
@@ -395,6 +391,18 @@ pub fn call_of<'a>(
         configured: or_else(matches.get_str("configured"), ""),
         local: or_else(matches.get_str("local"), ""),
     })
+}
+
+// The specs in the arguments, and whether the standard input is among them.
+fn specs_of<'a>(
+    alloc: Global,
+    matches: &ArgMatches<'a>,
+) -> Result<(Vec<&'a str>, bool), AllocError> {
+    let mut specs = listed(alloc, matches, "spec")?;
+    let count = specs.len();
+    specs.retain(|spec| *spec != INPUT);
+    let has_dash = specs.len() < count;
+    Ok((specs, has_dash))
 }
 
 // How many messages of a kind are reported.

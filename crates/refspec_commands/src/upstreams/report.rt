@@ -1,6 +1,7 @@
 //! The report on upstreams, for a call that names branches or none.
 
-ghost use Rattle.std.specs.Prelude.{◌≡◌, ◌++◌, [], OnOk, option_map, unwrap_or};
+ghost use Rattle.std.specs.Prelude.{◌≡◌, ◌++◌, [], Some, OnOk, option_map, unwrap_or};
+ghost use Rattle.bstr.specs.Owned.{bstring_bytes};
 ghost use Rattle.refspec_io.specs.Rows.{WritesLine, fields};
 ghost use Rattle.refspec_io.specs.declared.call.Form.TheVariants as form;
 ghost use Rattle.refspec_commands.specs.Each.{AddsOne};
@@ -102,19 +103,36 @@ fn columns_of(alloc: Global, form: Form, found: &[Found<'_, '_>]) -> Result<Colu
 
 // The row of a branch with an upstream.
 fn row_for<'r>(found: &'r Found<'_, '_>) -> Option<Row<'r>> {
-    let (name, text) = match (&found.upstream, found.merged.setup) {
+    match (&found.upstream, found.merged.setup) {
         (Upstream::Tracked { name, .. }, _) => {
-            (name.as_bstr().as_bytes(), Some(found.text.as_bytes()))
+            Some(tracked_row(found, name.as_bstr().as_bytes()))
         }
-        (_, Setup::Here(name)) => (name, None),
-        _ => return None,
-    };
-    Some(Row {
+        (_, Setup::Here(name)) => Some(Row {
+            branch: found.merged.branch,
+            name,
+            merged: found.merged.name,
+            text: None,
+        }),
+        _ => None,
+    }
+}
+
+// The row of a branch whose merged ref a spec stores in the ref of this name.
+fn tracked_row<'r>(found: &'r Found<'_, '_>, name: &'r [u8]) -> Row<'r>
+    ensures { tracking_of result ≡ record {
+      branch = option_map (λ n. n.now) found.now.merged.branch;
+      name = name.now;
+      merged = found.now.merged.name.now;
+      text = Some (bstring_bytes found.now.text);
+    } }
+{
+    let text = found.text.as_bytes();
+    Row {
         branch: found.merged.branch,
         name,
         merged: found.merged.name,
-        text,
-    })
+        text: Some(text),
+    }
 }
 
 // Reports an upstream, or why there is none.
@@ -132,12 +150,7 @@ fn report_found(
     let text = found.text.as_bytes();
     match &found.upstream {
         Upstream::Tracked { name, .. } => {
-            let row = Row {
-                branch: merged.branch,
-                name: name.as_bstr().as_bytes(),
-                merged: merged.name,
-                text: Some(text),
-            };
+            let row = tracked_row(found, name.as_bstr().as_bytes());
             write_row(alloc, report.form, columns, &row, &mut report.results)
         }
         Upstream::Excluded { .. } => {
