@@ -1,5 +1,5 @@
 -- The upstream is that of the library, and the text that of the spec which it names.
-use Rattle.std.proofs.Common.{ℕ, List, Option, map, refl, subst, ◌∙◌}
+use Rattle.std.proofs.Common.{ℕ, List, Option, map, refl, subst}
 use Rattle.bstr.specs.Owned.{bstring_bytes}
 use Rattle.gix_refspec.specs.Views.Spec.{reading_of}
 use Rattle.gix_refspec_remote.specs.Upstream.{IsUpstream}

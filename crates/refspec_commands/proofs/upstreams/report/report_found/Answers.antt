@@ -10,7 +10,7 @@ pub returns-in-Tracked-clause-reported : goal.returns-in-Tracked-clause-reported
 returns-in-Tracked-clause-reported c = on_ok c.write_row.result _ _ c.write_row.ensures
     (found_row c.args.report.now.form c.args.found.now _ _ _ c.args.report.now.results.items c.write_row.new.out.items
     (ap shown c.in-Tracked.is)
-    (c.tracked_row.ensures ∙ tracking_same _ _ _ _ _ _ (c.as_bytes.ensures ∙ c.as_bstr.ensures) refl))
+    (c.tracked_row-row.ensures ∙ tracking_same _ _ _ _ _ _ (c.as_bytes.ensures ∙ c.as_bstr.ensures) refl))
 
 pub returns-in-Excluded-clause-reported : goal.returns-in-Excluded-clause-reported
 returns-in-Excluded-clause-reported c = on_ok c.report_other.result _ _ c.report_other.ensures.reported
