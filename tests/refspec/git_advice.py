@@ -43,11 +43,6 @@ IN_CONFLICT = "Exclude the other source, or give one of the specs another destin
 LIST = "List what it has by `git ls-remote`."
 # What can't be done to a value: there is no such name, or it is for the remote to do.
 NOTHING_TO_DO = ("Give the name of a ref: this is none.", "Give the ref another name on the remote.")
-# What is said where another destination below refs/ is wanted, as for refs/heads/a with refs/heads/a*:refs/x/*; where no spec can name
-# the ref, as for refs/heads/a..b; and of a merged text that is a pattern, as refs/heads/*.
-IS_BELOW_REFS = "the destination is below refs/ already"
-IS_NO_SPEC = "the value to add isn't a refspec"
-IS_PATTERN = "the merged ref is a pattern"
 # The word of the call, the values, the refs of the remote, and the name that is asked about.
 Situation = collections.namedtuple("Situation", "word values refs name")
 
@@ -114,18 +109,6 @@ class Advice:
         source, _, far = canonical.encode().rpartition(b":")
         return source + b":refs/other/" + (b"*" if b"*" in far else b"ref")
 
-    def useless(self, situation, found, advice):
-        """Why advice is known not to help; None if it isn't."""
-        side = remotecalls.empty_side_of(situation.values, situation.name) if situation.word == "upstream" else None
-        if side:
-            return f"Git takes {side} otherwise"
-        if situation.word == "upstream" and b"*" in situation.name:
-            return IS_PATTERN
-        if ADD.search(advice) and self.objects("canon", "--", unquoted(ADD.search(advice)[1]))[0]["kind"] == "refused":
-            return IS_NO_SPEC
-        wrong = [one["destination"] for one in found if one.get("fate") == "invalid_destination"]
-        return IS_BELOW_REFS if advice == BELOW_REFS and all(name.startswith("refs/") for name in wrong) else None
-
     def listed(self, situation):
         """What `git ls-remote` shows where the remote is said to lack the ref."""
         remote, _ = self.fates.remote(tuple(situation.refs))
@@ -139,6 +122,10 @@ class Advice:
             found = self.remotes.upstreams(situation.values, [situation.name])[0]
             if found and not gitremotes.can_be_there(found):
                 return "to an upstream that no ref can be"
+            # An empty source is HEAD for the program, and not for Git.
+            side = None if found else remotecalls.empty_side_of(situation.values, situation.name)
+            if side == "an empty source":
+                return f"to nothing, as Git takes {side} otherwise"
             return "to an upstream" if found else f"{NOT_SO}: {situation}"
         names, values = tuple(situation.refs), tuple(situation.values)
         _, heads, failure = self.fates.fetched(names, values)
@@ -155,9 +142,6 @@ class Advice:
             return ["with nothing to do"]
         if lack["advice"] == LIST:
             return [self.listed(situation)]
-        useless = self.useless(situation, found, lack["advice"])
-        if useless:
-            return [f"in vain, as {useless}"]
         if steps == MOST_STEPS:
             return [f"{NOT_SO} after {steps} steps: {situation}: {lack['advice']}"]
         return [it for way in self.ways(situation, found, lack["advice"]) for it in self.taken(way, steps + 1)]

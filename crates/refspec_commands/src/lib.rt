@@ -4,6 +4,7 @@
 
 pub mod checking;
 pub mod fates;
+mod full_names;
 mod mappings;
 mod prefetches;
 pub mod prefixes;

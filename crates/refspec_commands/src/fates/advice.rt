@@ -2,7 +2,10 @@
 
 use crate::fates::answer::Answer;
 use crate::fates::question::{Known, Question};
-use gix_refspec_why::Fate;
+use crate::full_names::{full_name, spec_storing, write_addition, write_removal};
+use gix_refspec::match_group::ref_names::is_ref_name;
+use gix_refspec_text::side::strip_refs;
+use gix_refspec_why::{Effect, Fate};
 use refspec_io::canonical::text_at;
 use refspec_io::quote::write_in_message;
 use std::alloc::{AllocError, Global};
@@ -31,7 +34,7 @@ pub(crate) fn advice_on(
     match first_obstacle(answer) {
         None => Ok(Lack {
             message: "No spec fetches this ref.",
-            advice: addition(alloc, question.name)?,
+            advice: fetching_advice(alloc, question, answer)?,
         }),
         Some(Obstacle::Excluded(index)) => Ok(Lack {
             message: "A negative spec excludes this ref.",
@@ -41,9 +44,9 @@ pub(crate) fn advice_on(
             message: "Git leaves this ref out, as its name isn't a valid one.",
             advice: Vec::from_slice(alloc, b"Give the ref another name on the remote.")?,
         }),
-        Some(Obstacle::Destination) => Ok(Lack {
+        Some(Obstacle::Destination(fault)) => Ok(Lack {
             message: "Git leaves this ref out, as no spec stores it in a ref with a valid name.",
-            advice: Vec::from_slice(alloc, b"Write a destination below refs/.")?,
+            advice: destination_advice(alloc, question.name, fault)?,
         }),
         Some(Obstacle::Conflict) => Ok(Lack {
             message: "This ref is in conflict with another one, so it isn't fetched.",
@@ -61,8 +64,17 @@ enum Obstacle {
     // The negative spec at this index.
     Excluded(usize),
     Name,
-    Destination,
+    Destination(Fault),
     Conflict,
+}
+
+// What is wrong with a destination.
+#[derive(Clone, Copy, Debug)]
+enum Fault {
+    // It isn't below `refs/`.
+    Outside,
+    // It is, and has no valid name.
+    Name,
 }
 
 // What is in the way by the first spec that maps the ref. `None` if no spec does.
@@ -71,7 +83,7 @@ fn first_obstacle(answer: &Answer) -> Option<Obstacle> {
         match effect.fate {
             Fate::Excluded(by) => return Some(Obstacle::Excluded(by.spec_index)),
             Fate::InvalidName => return Some(Obstacle::Name),
-            Fate::InvalidDestination => return Some(Obstacle::Destination),
+            Fate::InvalidDestination => return Some(Obstacle::Destination(fault_of(effect))),
             Fate::InConflict(_) | Fate::DirectoryConflict(_) => return Some(Obstacle::Conflict),
             Fate::Unmatched(_) | Fate::Excludes(_) | Fate::Duplicate(_) | Fate::Written => {}
         }
@@ -79,35 +91,84 @@ fn first_obstacle(answer: &Answer) -> Option<Obstacle> {
     None
 }
 
+// What is wrong with the invalid destination of an effect.
+fn fault_of(effect: &Effect) -> Fault {
+    match &effect.destination {
+        None => Fault::Outside,
+        Some(name) => match strip_refs(name.as_bytes()) {
+            None => Fault::Outside,
+            Some(_) => Fault::Name,
+        },
+    }
+}
+
 // That a negative spec is to be left out.
 fn removal(alloc: Global, text: &[u8]) -> Result<Vec<u8>, AllocError> {
-    let mut advice = Vec::from_slice(alloc, b"Leave out ")?;
-    write_in_message(&mut advice, text)?;
+    let mut advice = Vec::new(alloc);
+    write_removal(text, &mut advice)?;
     advice.extend_from_slice(b", or let it exclude less.")?;
     Ok(advice)
 }
 
-// Which spec fetches a ref.
-fn addition(alloc: Global, name: &[u8]) -> Result<Vec<u8>, AllocError> {
-    let mut advice = Vec::from_slice(alloc, b"Add a spec such as ")?;
-    let mut spec = Vec::from_slice(alloc, b"+")?;
-    spec.extend_from_slice(name)?;
-    spec.extend_from_slice(b":refs/remotes/origin/")?;
-    spec.extend_from_slice(folder_of(name))?;
-    write_in_message(&mut advice, spec.as_slice())?;
+// What to do about an invalid destination. Another ref may have a valid one by the same pattern, so that stays.
+fn destination_advice(alloc: Global, name: &[u8], fault: Fault) -> Result<Vec<u8>, AllocError> {
+    match fault {
+        Fault::Outside => Vec::from_slice(alloc, b"Write a destination below refs/."),
+        Fault::Name => addition(alloc, b"Add a spec such as ", name),
+    }
+}
+
+// How to fetch a ref that no positive spec maps: which spec fetches it, and which negative one is to be left out first, or
+// which name is to be given.
+fn fetching_advice(
+    alloc: Global,
+    question: &Question<'_, '_, '_>,
+    answer: &Answer,
+) -> Result<Vec<u8>, AllocError> {
+    if !is_ref_name(question.name) {
+        return name_advice(alloc, question);
+    }
+    let Some(index) = first_exclusion(answer) else {
+        return addition(alloc, b"Add a spec such as ", question.name);
+    };
+    let mut words = Vec::new(alloc);
+    write_removal(text_at(answer.texts.as_slice(), index), &mut words)?;
+    words.extend_from_slice(b", and add a spec such as ")?;
+    addition(alloc, words.as_slice(), question.name)
+}
+
+// The index of the first negative spec that excludes the ref. `None` if none does.
+fn first_exclusion(answer: &Answer) -> Option<usize> {
+    for (index, effect) in answer.effects.of_specs.iter().enumerate() {
+        match effect.fate {
+            Fate::Excludes(_) => return Some(index),
+            _ => {}
+        }
+    }
+    None
+}
+
+// That a full name is to be given, or that the ref needs another one.
+fn name_advice(alloc: Global, question: &Question<'_, '_, '_>) -> Result<Vec<u8>, AllocError> {
+    let full = match question.known {
+        Known::Listed => None,
+        Known::Assumed => full_name(alloc, question.name)?,
+    };
+    let Some(full) = full else {
+        return Vec::from_slice(alloc, b"Give the ref another name on the remote.");
+    };
+    let mut advice = Vec::from_slice(alloc, b"Give the full name of the ref, such as ")?;
+    write_in_message(&mut advice, full.as_bytes())?;
     advice.push(b'.')?;
     Ok(advice)
 }
 
-// The part of a ref name that is stored below the folder of a remote.
-fn folder_of(name: &[u8]) -> &[u8] {
-    match name.strip_prefix(b"refs/heads/") {
-        Some(branch) => branch,
-        None => match name.strip_prefix(b"refs/") {
-            Some(rest) => rest,
-            None => name,
-        },
-    }
+// Which spec fetches a ref, after these words.
+fn addition(alloc: Global, words: &[u8], name: &[u8]) -> Result<Vec<u8>, AllocError> {
+    let spec = spec_storing(alloc, name, b"origin")?;
+    let mut advice = Vec::new(alloc);
+    write_addition(words, spec.as_bytes(), &mut advice)?;
+    Ok(advice)
 }
 
 // Which ref of the remote may be meant.

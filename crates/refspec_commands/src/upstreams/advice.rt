@@ -1,12 +1,13 @@
 //! What would give a branch an upstream.
 
+use crate::full_names::{full_name, spec_storing, write_addition, write_removal};
 use crate::upstreams::answer::text_at;
 use crate::upstreams::question::{Merged, Setup};
-use bstr::{BStr, BString};
+use bstr::BStr;
+use gix_refspec::match_group::ref_names::is_ref_name;
 use gix_refspec::parsing::{Error, Operation};
 use gix_refspec::{RefSpecRef, parse};
 use gix_refspec_remote::{Upstream, upstream_of};
-use gix_refspec_text::side::joined;
 use refspec_io::quote::write_in_message;
 use std::alloc::{AllocError, Global};
 
@@ -62,11 +63,10 @@ pub(crate) fn advice_on(alloc: Global, lack: &Lack<'_, '_, '_>) -> Result<Vec<u8
     }
     match (lack.why, lack.spec) {
         (Why::Excluded, Some(text)) => {
-            advice.extend_from_slice(b"Leave out ")?;
-            write_in_message(&mut advice, text)?;
+            write_removal(text, &mut advice)?;
             advice.push(b'.')?;
         }
-        _ => write_value(alloc, lack.merged, &mut advice)?,
+        _ => write_value(alloc, lack, &mut advice)?,
     }
     Ok(advice)
 }
@@ -97,40 +97,54 @@ fn write_setting(merged: &Merged<'_, '_>, out: &mut Vec<u8>) -> Result<(), Alloc
     }
 }
 
-const NO_NAME: &[u8] = b"Give the name of a ref: this is none.";
-
-// Appends which spec would store what a branch merges.
+// Appends which spec would store what a branch merges, and which is to be left out for that: one that fetches it without
+// storing it, as Git takes an empty destination for one, or else a negative one.
 fn write_value(
     alloc: Global,
-    merged: &Merged<'_, '_>,
+    lack: &Lack<'_, '_, '_>,
     out: &mut Vec<u8>,
 ) -> Result<(), AllocError> {
-    let Some(folder) = folder_of(merged.name) else {
+    let merged = lack.merged;
+    if !is_ref_name(merged.name) {
         return write_full_name(alloc, merged.name, out);
-    };
-    let value = value_for(alloc, merged, folder)?;
+    }
+    let remote = merged.remote.unwrap_or(b"origin".as_slice());
+    let value = spec_storing(alloc, merged.name, remote)?;
     let spec = match parse(alloc, value.as_bstr(), Operation::Fetch) {
         Ok(spec) => spec,
         Err(Error::Memory) => return Err(AllocError),
-        Err(_) => return write_refused(alloc, merged, out),
+        Err(_) => return write_remote_name(remote, out),
     };
-    match excluding_with(alloc, merged.specs, spec, merged.name)? {
-        Some(index) => {
+    match (
+        lack.spec,
+        excluding_with(alloc, merged.specs, spec, merged.name)?,
+    ) {
+        (Some(text), _) => write_exchange(merged, text, value.as_bytes(), out),
+        (None, Some(index)) => {
             let text = text_at(alloc, merged.specs, Some(index))?;
-            out.extend_from_slice(b"Leave out ")?;
-            write_in_message(out, text.as_bytes())?;
-            match merged.remote {
-                None => write_addition(b", and add a spec such as ", value.as_bytes(), out),
-                Some(remote) => {
-                    out.extend_from_slice(b"; ")?;
-                    write_command(remote, merged, value.as_bytes(), out)
-                }
-            }
+            write_exchange(merged, text.as_bytes(), value.as_bytes(), out)
         }
-        None => match merged.remote {
+        (None, None) => match merged.remote {
             None => write_addition(b"Add a spec such as ", value.as_bytes(), out),
             Some(remote) => write_command(remote, merged, value.as_bytes(), out),
         },
+    }
+}
+
+// Appends that a spec is to be left out, and another one added.
+fn write_exchange(
+    merged: &Merged<'_, '_>,
+    text: &[u8],
+    value: &[u8],
+    out: &mut Vec<u8>,
+) -> Result<(), AllocError> {
+    write_removal(text, out)?;
+    match merged.remote {
+        None => write_addition(b", and add a spec such as ", value, out),
+        Some(remote) => {
+            out.extend_from_slice(b"; ")?;
+            write_command(remote, merged, value, out)
+        }
     }
 }
 
@@ -158,24 +172,11 @@ fn write_command(
     out.extend_from_slice(b"` adds a value that stores it.")
 }
 
-// Appends that the merged ref has no valid name, or else the remote none below which refs can be stored.
-fn write_refused(
-    alloc: Global,
-    merged: &Merged<'_, '_>,
-    out: &mut Vec<u8>,
-) -> Result<(), AllocError> {
-    let Some(remote) = merged.remote else {
-        return out.extend_from_slice(NO_NAME);
-    };
-    match parse(alloc, BStr::new(merged.name), Operation::Fetch) {
-        Err(Error::Memory) => Err(AllocError),
-        Err(_) => out.extend_from_slice(NO_NAME),
-        Ok(_) => {
-            out.extend_from_slice(b"Give the remote a name: `git remote add NAME ")?;
-            write_in_message(out, remote)?;
-            out.extend_from_slice(b"`, and set it as the remote of the branch.")
-        }
-    }
+// Appends that the remote is to have a name: below this one no refs can be stored.
+fn write_remote_name(remote: &[u8], out: &mut Vec<u8>) -> Result<(), AllocError> {
+    out.extend_from_slice(b"Give the remote a name: `git remote add NAME ")?;
+    write_in_message(out, remote)?;
+    out.extend_from_slice(b"`, and set it as the remote of the branch.")
 }
 
 // The index of the negative spec that excludes a merged ref if there is one more spec.
@@ -195,44 +196,12 @@ fn excluding_with<'s>(
 
 // Appends which full name is to be given in place of a name.
 fn write_full_name(alloc: Global, name: &[u8], out: &mut Vec<u8>) -> Result<(), AllocError> {
-    let full = joined(alloc, b"refs/heads/", name, b"")?;
-    match parse(alloc, full.as_bstr(), Operation::Fetch) {
-        Err(Error::Memory) => Err(AllocError),
-        Err(_) => out.extend_from_slice(NO_NAME),
-        Ok(_) => {
+    match full_name(alloc, name)? {
+        None => out.extend_from_slice(b"Give the name of a ref: this is none."),
+        Some(full) => {
             out.extend_from_slice(b"Give the full name of the merged ref, such as ")?;
             write_in_message(out, full.as_bytes())?;
             out.extend_from_slice(b": Git compares names as they are written.")
         }
     }
-}
-
-// Appends that a spec is to be added, after these words.
-fn write_addition(words: &[u8], value: &[u8], out: &mut Vec<u8>) -> Result<(), AllocError> {
-    out.extend_from_slice(words)?;
-    write_in_message(out, value)?;
-    out.extend_from_slice(b".")
-}
-
-// The part of a ref name that is stored below the folder of a remote. `None` if the name isn't a full one.
-fn folder_of(name: &[u8]) -> Option<&[u8]> {
-    if name == b"HEAD".as_slice() {
-        return Some(name);
-    }
-    match name.strip_prefix(b"refs/heads/") {
-        Some(branch) => Some(branch),
-        None => name.strip_prefix(b"refs/"),
-    }
-}
-
-// The text of the spec that stores a merged ref below the folder of its remote, or of `origin` if that has no name.
-fn value_for(alloc: Global, merged: &Merged<'_, '_>, folder: &[u8]) -> Result<BString, AllocError> {
-    let mut text = Vec::new(alloc);
-    text.push(b'+')?;
-    text.extend_from_slice(merged.name)?;
-    text.extend_from_slice(b":refs/remotes/")?;
-    text.extend_from_slice(merged.remote.unwrap_or(b"origin".as_slice()))?;
-    text.push(b'/')?;
-    text.extend_from_slice(folder)?;
-    Ok(BString::new(text))
 }

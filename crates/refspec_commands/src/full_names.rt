@@ -1,0 +1,83 @@
+//! Full names of refs in advice, and the specs that store them below the folder of a remote.
+
+ghost use Rattle.std.specs.Prelude.{IfOk, MatchOption, ⊤};
+ghost use Rattle.bstr.specs.Owned.{bstring_bytes};
+ghost use Rattle.gix_refspec.specs.Matching.RefNames.{IsRefName};
+
+use bstr::BString;
+use gix_refspec::match_group::ref_names::is_ref_name;
+use gix_refspec_text::side::joined;
+use refspec_io::quote::write_in_message;
+use std::alloc::{AllocError, Global};
+
+// The full name that may be meant by a name, as `refs/heads/main` is by `main`. `None` if that isn't valid.
+pub(crate) fn full_name(alloc: Global, name: &[u8]) -> Result<Option<BString>, AllocError>
+    ensures { IfOk result (λ full. MatchOption full ⊤ (λ full. IsRefName (bstring_bytes full))) }
+{
+    let full = completed(alloc, name)?;
+    if is_ref_name(full.as_bytes()) {
+        Ok(Some(full))
+    } else {
+        Ok(None)
+    }
+}
+
+// A name with what Git puts before it: nothing before `refs/`, and else `refs/` before the name of a folder there.
+fn completed(alloc: Global, name: &[u8]) -> Result<BString, AllocError> {
+    if name == b"@".as_slice() {
+        return joined(alloc, b"HEAD", b"", b"");
+    }
+    if name.starts_with(b"refs/") {
+        return joined(alloc, name, b"", b"");
+    }
+    if is_below_folder(name) {
+        return joined(alloc, b"refs/", name, b"");
+    }
+    joined(alloc, b"refs/heads/", name, b"")
+}
+
+// Whether a name begins with that of a folder of `refs/` in which Git looks for refs.
+fn is_below_folder(name: &[u8]) -> bool {
+    name.starts_with(b"heads/") || name.starts_with(b"tags/") || name.starts_with(b"remotes/")
+}
+
+// The text of the spec that stores a ref below the folder of a remote.
+pub(crate) fn spec_storing(
+    alloc: Global,
+    name: &[u8],
+    remote: &[u8],
+) -> Result<BString, AllocError> {
+    let mut text = Vec::new(alloc);
+    text.push(b'+')?;
+    text.extend_from_slice(name)?;
+    text.extend_from_slice(b":refs/remotes/")?;
+    text.extend_from_slice(remote)?;
+    text.push(b'/')?;
+    text.extend_from_slice(part_stored(name))?;
+    Ok(BString::new(text))
+}
+
+// The part of a ref name that is stored below the folder of a remote.
+fn part_stored(name: &[u8]) -> &[u8] {
+    match name.strip_prefix(b"refs/heads/") {
+        Some(branch) => branch,
+        None => name.strip_prefix(b"refs/").unwrap_or(name),
+    }
+}
+
+// Appends that a spec is to be added, after these words.
+pub(crate) fn write_addition(
+    words: &[u8],
+    value: &[u8],
+    out: &mut Vec<u8>,
+) -> Result<(), AllocError> {
+    out.extend_from_slice(words)?;
+    write_in_message(out, value)?;
+    Ok(out.push(b'.')?)
+}
+
+// Appends that a spec is to be left out.
+pub(crate) fn write_removal(text: &[u8], out: &mut Vec<u8>) -> Result<(), AllocError> {
+    out.extend_from_slice(b"Leave out ")?;
+    write_in_message(out, text)
+}
