@@ -360,9 +360,12 @@ LETTERS = "a" * 100_000
 ONE_REMOTE = '[remote "origin"]\n\turl = x\n'
 REMOTE = '[remote "r{0}"]\n\turl = x\n\tfetch = +refs/heads/*:refs/remotes/r{0}/*\n'
 VALUES = "\tfetch = refs/heads/b{0}:refs/remotes/origin/b{0}\n\tfetch = +refs/heads/t{0}/*:refs/remotes/origin/t{0}/*\n"
+FETCHED = "\tfetch = +refs/heads/b{0}:refs/remotes/origin/b{0}\n"
+MERGING = '[branch "b{0}"]\n\tremote = origin\n\tmerge = refs/heads/b{0}\n'
 OVERLAPPING = f"\tfetch = ^refs/heads/*\n\tfetch = refs/heads/*:refs/x/{LETTERS}*\n\tfetch = refs/tags/*:refs/x/*{LETTERS}\n"
 # What a configuration has, what it says, a call, and whether it answers well: a tracking ref is told of 200 remotes, a remote of
-# 1,000 values is checked, and two patterns that overlap in up to 100,000 equal letters.
+# 1,000 values is checked, and two patterns that overlap in up to 100,000 equal letters; and the upstreams of 1,000 branches are
+# found by as many values.
 SOON = (
     ("200 remotes", "".join(map(REMOTE.format, range(200))), "track r77/main",
      lambda made: made.stdout == b"r77  refs/remotes/r77/main  refs/heads/main  +refs/heads/*:refs/remotes/r77/*\n"),
@@ -370,6 +373,10 @@ SOON = (
      lambda made: not (made.returncode or made.stdout or made.stderr)),
     ("two long values", ONE_REMOTE + OVERLAPPING, "check",
      lambda made: not (made.returncode or made.stdout) and made.stderr.count(b"warning: ") == 1),
+    ("1,000 branches and values", ONE_REMOTE + "\tfetch = ^refs/heads/wip/*\n" + "".join(map(FETCHED.format, range(1000)))
+     + "".join(map(MERGING.format, range(1000))), "upstream -z",
+     lambda made: not made.returncode and made.stdout.split(b"\0")[3996:4000] == [
+         b"b999", b"refs/remotes/origin/b999", b"refs/heads/b999", b"+refs/heads/b999:refs/remotes/origin/b999"]),
 )
 
 
