@@ -118,8 +118,8 @@ fn destination_advice(alloc: Global, name: &[u8], fault: Fault) -> Result<Vec<u8
     }
 }
 
-// How to fetch a ref that no positive spec maps: which spec fetches it, and which negative one is to be left out first, or
-// which name is to be given.
+// How to fetch a ref that no positive spec maps: which spec fetches it, and which negative one is to be left
+// out first, or which name is to be given.
 fn fetching_advice(
     alloc: Global,
     question: &Question<'_, '_, '_>,

@@ -3,7 +3,8 @@
 ghost use Rattle.std.specs.Prelude.{map, IfOk, MatchBool};
 ghost use Rattle.bstr.specs.Owned.{bstring_bytes};
 ghost use Rattle.gix_refspec.specs.Views.Spec.{reading_of};
-ghost use Rattle.refspec_commands.specs.Prefixes.{AreOthers, AreReasons, CanBeListed, IsAnswer, IsReason, IsWhole, TakesWhole};
+ghost use Rattle.refspec_commands.specs.Prefixes.{AreOthers, AreReasons, CanBeListed, IsAnswer, IsReason};
+ghost use Rattle.refspec_commands.specs.Prefixes.{IsWhole, TakesWhole};
 
 use bstr::BString;
 use gix_refspec::match_group::RefPrefixes;

@@ -7,7 +7,8 @@ ghost use Rattle.refspec_json.specs.Objects.{all_object, line_of, noted_object};
 ghost use Rattle.refspec_io.specs.declared.call.Form.TheVariants as form;
 ghost use Rattle.refspec_io.specs.Json.{AddsObjects, json_text};
 ghost use Rattle.refspec_commands.specs.declared.prefixes.report.Notation.TheVariants as notation;
-ghost use Rattle.refspec_commands.specs.Prefixes.{AddsAll, AddsAnswer, AddsNothing, AddsRequests, AddsTooMany, AddsWhole, IsReasonObject, asked_object, request};
+ghost use Rattle.refspec_commands.specs.Prefixes.{AddsAll, AddsAnswer, AddsNothing, AddsRequests, AddsTooMany};
+ghost use Rattle.refspec_commands.specs.Prefixes.{AddsWhole, IsReasonObject, asked_object, request};
 
 use crate::prefixes::answer::Answer;
 use bstr::BString;

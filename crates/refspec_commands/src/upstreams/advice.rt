@@ -97,8 +97,8 @@ fn write_setting(merged: &Merged<'_, '_>, out: &mut Vec<u8>) -> Result<(), Alloc
     }
 }
 
-// Appends which spec would store what a branch merges, and which is to be left out for that: one that fetches it without
-// storing it, as Git takes an empty destination for one, or else a negative one.
+// Appends which spec would store what a branch merges, and which is to be left out for that: one that fetches it
+// without storing it, as Git takes an empty destination for one, or else a negative one.
 fn write_value(
     alloc: Global,
     lack: &Lack<'_, '_, '_>,
@@ -148,7 +148,8 @@ fn write_exchange(
     }
 }
 
-// Appends the command that adds a value to a remote: by the name of a branch, if the remote has values, else by its text.
+// Appends the command that adds a value to a remote: by the name of a branch, if the remote has values, else by
+// its text.
 fn write_command(
     remote: &[u8],
     merged: &Merged<'_, '_>,

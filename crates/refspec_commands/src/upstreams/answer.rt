@@ -5,7 +5,8 @@ ghost use Rattle.std.specs.List.{All, AllZip, Any};
 ghost use Rattle.bstr.specs.Owned.{bstring_bytes};
 ghost use Rattle.gix_refspec.specs.Views.Spec.{reading_of};
 ghost use Rattle.gix_refspec_remote.specs.Views.{shown};
-ghost use Rattle.refspec_commands.specs.Upstreams.{FindsUpstream, HasUpstream, IsFound, IsHere, IsStatus, IsTextAt, spec_named};
+ghost use Rattle.refspec_commands.specs.Upstreams.{FindsUpstream, HasUpstream, IsFound, IsHere, IsStatus};
+ghost use Rattle.refspec_commands.specs.Upstreams.{IsTextAt, spec_named};
 
 use crate::upstreams::question::{Merged, Question, Setup};
 use bstr::{BStr, BString};

@@ -20,8 +20,8 @@ use refspec_io::report::Report;
 use refspec_io::table::Layout;
 use std::alloc::{AllocError, Global};
 
-/// Reports the upstream of each branch, with the spec that stores it, or none if it is the merged ref itself; and for each
-/// branch without one why, and what would give it one. Fails if memory runs out.
+/// Reports the upstream of each branch, with the spec that stores it, or none if it is the merged ref itself; and
+/// for each branch without one why, and what would give it one. Fails if memory runs out.
 pub fn report_answer(
     alloc: Global,
     answer: &Answer<'_, '_>,
