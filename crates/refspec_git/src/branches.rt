@@ -1,13 +1,16 @@
 //! The branches of a call of `git refspec upstream`, and what the configuration says of each.
 
-ghost use Rattle.std.specs.Prelude.{◌≡◌, ◌≢◌, ◌↔◌, ◌⊎◌, [], List, IfErr, IfOk, IsTrue, MatchBool, MatchOption, MatchResult};
+ghost use Rattle.std.specs.Prelude.{◌≡◌, ◌≢◌, ◌↔◌, ◌⊎◌, [], List, IfErr, IfOk, IsTrue, MatchBool, MatchOption};
+ghost use Rattle.std.specs.Prelude.{MatchResult};
 ghost use Rattle.std.specs.Prelude.{None, OnOk, option_map};
 ghost use Rattle.std.specs.List.{All, AllZip};
 ghost use Rattle.refspec_request.specs.Refusals.{IsForMemory};
 ghost use Rattle.refspec_request.specs.Settings.{value_of_last};
 ghost use Rattle.refspec_git.specs.Branches.{AddsBranch, AreAllBranches, AreBranches, AreChosenBranches, AreOfBranches};
-ghost use Rattle.refspec_git.specs.Branches.{HasNoOldRemote, HasOldRemote, IsBelowHeads, IsBranch, IsHead, IsNamedBranch};
-ghost use Rattle.refspec_git.specs.Branches.{NamesBranch, RefusesBranch, RefusesBranches, RefusesChosenBranches, RefusesNamedBranches};
+ghost use Rattle.refspec_git.specs.Branches.{HasNoOldRemote, HasOldRemote, IsBelowHeads, IsBranch, IsHead};
+ghost use Rattle.refspec_git.specs.Branches.{IsNamedBranch};
+ghost use Rattle.refspec_git.specs.Branches.{NamesBranch, RefusesBranch, RefusesBranches};
+ghost use Rattle.refspec_git.specs.Branches.{RefusesChosenBranches, RefusesNamedBranches};
 ghost use Rattle.refspec_git.specs.Branches.{settings_at, value_of_first};
 ghost use Rattle.refspec_io.specs.declared.settings.Setting.{Setting};
 ghost use Rattle.refspec_request.specs.Choices.{HasNoOldForm, IsOldForm};
@@ -303,7 +306,8 @@ fn old_remote<'a>(branch: &Branch<'a>, repository: &Repository<'a, 'a>) -> Optio
     }
 }
 
-// The refusal of a remote, if it is configured in a file of its own. Without such a file no settings are looked through.
+// The refusal of a remote, if it is configured in a file of its own. Without such a file no settings are looked
+// through.
 fn old_form<'a>(remote: &'a [u8], repository: &Repository<'a, 'a>) -> Option<Refusal<'a>>
     ensures { MatchOption result (HasNoOldForm repository.now remote.entry.now)
         (IsOldForm repository.now remote.entry.now) }

@@ -14,8 +14,8 @@ use refspec_request::booleans::{
 use refspec_request::needed::needs_value;
 use refspec_request::refusal::Refusal;
 
-/// Why Git stops at one of these settings: the first that lacks a value, or isn't a boolean. Only commands that fetch read
-/// those of a fetch.
+/// Why Git stops at one of these settings: the first that lacks a value, or isn't a boolean. Only commands that
+/// fetch read those of a fetch.
 pub fn bad_setting<'a>(command: Subcommand, settings: &[Setting<'a>]) -> Option<Refusal<'a>>
     ensures { MatchOption result (All (Passes command) settings.now) (StopsFirst command settings.now) }
 {

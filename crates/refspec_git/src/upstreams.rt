@@ -7,7 +7,8 @@ ghost use Rattle.gix_refspec.specs.Views.Spec.{reading_of};
 ghost use Rattle.refspec_io.specs.declared.settings.Setting.{Setting};
 ghost use Rattle.refspec_git.specs.Branches.{RefusesBranches};
 ghost use Rattle.refspec_git.specs.Tracking.{AreSpecsIn, values_of};
-ghost use Rattle.refspec_git.specs.Upstreams.{AnswersUpstream, AreSpecsBy, HaveSpecs, IsFetchValue, IsMergedBy, IsSetup, values_for};
+ghost use Rattle.refspec_git.specs.Upstreams.{AnswersUpstream, AreSpecsBy, HaveSpecs, IsFetchValue, IsMergedBy};
+ghost use Rattle.refspec_git.specs.Upstreams.{IsSetup, values_for};
 
 use crate::answer::{Answer, reports};
 use crate::branches::{Branch, branches_of};
