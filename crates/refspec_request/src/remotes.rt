@@ -5,7 +5,8 @@ ghost use Rattle.std.specs.Prelude.{cond, length, option_map};
 ghost use Rattle.std.specs.List.{Any};
 ghost use Rattle.std.specs.Str.{bytes_eq};
 ghost use Rattle.gix_refspec_text.specs.Texts.Words.{BeginsWith, Lacks};
-ghost use Rattle.refspec_request.specs.Remotes.{AreFetchValues, AreValuesBy, IsConfigured, IsDefault, IsGroup, IsIgnored, IsInFile};
+ghost use Rattle.refspec_request.specs.Remotes.{AreFetchValues, AreValuesBy, IsConfigured, IsDefault, IsGroup};
+ghost use Rattle.refspec_request.specs.Remotes.{IsIgnored, IsInFile};
 ghost use Rattle.refspec_request.specs.Remotes.{IsInsteadOf, IsLocated, IsOfOther, IsOfRemote, IsOnly, IsOnlyOrOrigin};
 ghost use Rattle.refspec_request.specs.Remotes.{Rewrites, SaysWhere, is_between, listed_in, members_text};
 
@@ -32,8 +33,8 @@ pub fn fetch_values<'a>(
     values_by_name(alloc, settings, b"remote", b"fetch")
 }
 
-/// The names in settings `SECTION.NAME.OTHER`, sorted, each with its settings `SECTION.NAME.VARIABLE` in order. Fails if
-/// memory runs out.
+/// The names in settings `SECTION.NAME.OTHER`, sorted, each with its settings `SECTION.NAME.VARIABLE` in order.
+/// Fails if memory runs out.
 pub fn values_by_name<'a>(
     alloc: Global,
     settings: &[Setting<'a>],
