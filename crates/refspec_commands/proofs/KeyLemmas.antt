@@ -1,11 +1,11 @@
 -- The groups of texts by their keys, and the warnings on each.
-use Rattle.std.proofs.Common.{◌==◌, ◌≡◌, ◌≢◌, MatchBool, not, ℕ, zero, suc, Bool, true, false, cond, List, [], ◌∷◌}
+use Rattle.std.proofs.Common.{◌≡◌, ◌≢◌, ℕ, zero, suc, Bool, true, false, cond, List, [], ◌∷◌}
 use Rattle.std.proofs.Common.{◌++◌, Option, Some, None, MatchOption, length, map, append-nil, append_assoc, refl, sym}
-use Rattle.std.proofs.Common.{ap, ◌∙◌, subst, arith, slice_get, option_to_list, unwrap_or, vec_len, Vec, Global, Result}
+use Rattle.std.proofs.Common.{ap, ◌∙◌, subst, arith, slice_get, option_to_list, unwrap_or, Vec, Global, Result}
 use Rattle.std.proofs.Common.{Ok, Err, IfOk}
-use Rattle.std.proofs.lemmas.Bool.{Decides.Decides-eqb, false≢true}
+use Rattle.std.proofs.lemmas.Bool.{false≢true}
 use Rattle.std.proofs.lemmas.Cmp.{nat_list_cmp_total, on_total, tied_itself}
-use Rattle.std.proofs.lemmas.List.{map-append, nil_from_length}
+use Rattle.std.proofs.lemmas.List.{map-append}
 use Rattle.std.proofs.lemmas.Map.Entries.{btree_map_get_place}
 use Rattle.std.proofs.lemmas.Map.Text.{btree_map_updates_str}
 use Rattle.std.proofs.lemmas.Slice.Eq.{bytes_eq-Decides}

@@ -1,5 +1,5 @@
 -- The ref prefixes to request from a server, in order.
-use Rattle.std.proofs.Common.{◌≡◌, ◌⊎◌, ℕ, ◌+◌, ◌<◌, Bool, true, false}
+use Rattle.std.proofs.Common.{◌≡◌, ◌⊎◌, ℕ, ◌+◌, ◌<◌, true, false}
 use Rattle.std.proofs.Common.{codes, List, [], ◌∷◌, ◌++◌, ◌≢◌, ◌≤◌, flat_map, get_or, inl, inr}
 use Rattle.std.proofs.Common.{◌==◌, length, map, take, refl, sym, ap, ◌∙◌, subst, arith}
 use Rattle.std.proofs.lemmas.Bool.{eqb-true, false≢true}

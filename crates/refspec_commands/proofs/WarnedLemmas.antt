@@ -1,7 +1,7 @@
 -- The warnings on groups of specs, in JSON.
 use Rattle.std.proofs.Common.{arith, Bool, ◌≢◌, true, false, refl, is_some, length-append, append-nil, option_to_list}
 use Rattle.std.proofs.Common.{MatchBool, slice_get, ◌⊎◌, inl, inr, zero, suc, Option, None, Some, IfOk, IfErr, Vec}
-use Rattle.std.proofs.Common.{Global, ◌+◌, ◌<◌, ◌≤◌, ◌∷◌, get_or, length, map, subst, sym, take, take_all, ◌≡◌, ℕ, List}
+use Rattle.std.proofs.Common.{Global, ◌+◌, ◌<◌, ◌≤◌, ◌∷◌, get_or, length, map, subst, sym, take, ◌≡◌, ℕ, List}
 use Rattle.std.proofs.Common.{[], ◌++◌, codes, append_assoc, ap, ◌∙◌, Result, Ok, Err, OnOk, is_ok, if◌then◌else◌}
 use Rattle.std.proofs.lemmas.List.{get_or-map, get_or_default, length-map, length-take-le, map-append, take_more}
 use Rattle.std.proofs.lemmas.Option.{same_Some, slice_get-get_or, slice_get_within}
@@ -30,7 +30,7 @@ use Rattle.refspec_json.specs.Views.{warned_texts}
 use Rattle.refspec_io.specs.declared.call.Form.{Form}
 use Rattle.refspec_io.specs.declared.call.Form.TheVariants as form
 use Rattle.refspec_io.specs.declared.report.Report.{Report}
-use Rattle.refspec_io.specs.Json.{AreInOrder, json_text}
+use Rattle.refspec_io.specs.Json.{json_text}
 use Rattle.refspec_io.specs.Messages.{IsSpot}
 use Rattle.refspec_io.proofs.JsonLemmas.{AreInOrder-append}
 use Rattle.refspec_io.proofs.ShownLemmas.{behind}

@@ -1,5 +1,5 @@
 -- What `prefixes` requests from a server, and its output, in the terms of the library.
-use Rattle.std.specs.Prelude.{◌≡◌, ◌≢◌, ◌⊎◌, ℕ, Bool, true, false, List, [], ◌∷◌, ◌++◌, MatchBool, Some, map, codes}
+use Rattle.std.specs.Prelude.{◌≡◌, ◌≢◌, ◌⊎◌, ℕ, List, [], ◌∷◌, ◌++◌, Some, map, codes}
 use Rattle.std.specs.List.{flat_map}
 use Rattle.bstr.specs.Owned.{bstring_bytes}
 use Rattle.gix_refspec.specs.Matching.Asked.{Requests, RequestsBeside}

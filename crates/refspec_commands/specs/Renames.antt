@@ -1,5 +1,5 @@
 -- What `git remote rename` makes of the fetch values of a remote, in the terms of the library, and the report on it.
-use Rattle.std.specs.Prelude.{◌≡◌, ℕ, Bool, List, [], ◌∷◌, Option, None, Some, MatchBool, MatchOption, option_map}
+use Rattle.std.specs.Prelude.{◌≡◌, ℕ, Bool, List, [], ◌∷◌, Option, None, Some, MatchBool, option_map}
 use Rattle.std.specs.Prelude.{unwrap_or}
 use Rattle.std.specs.List.{All, AllZip, Any}
 use Rattle.bstr.specs.Owned.{bstring_bytes}

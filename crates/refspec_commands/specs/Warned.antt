@@ -4,7 +4,7 @@
 -- kinds of
 -- conflict. Of the warnings on single specs the name alone is said.
 use Rattle.std.specs.Prelude.{◌≡◌, ◌≢◌, ◌⊎◌, ◌<◌, ℕ, Bool, true, List, [], ◌∷◌, ◌++◌, Option, Some, None, codes, map}
-use Rattle.std.specs.Prelude.{option_to_list, is_some, ⊤}
+use Rattle.std.specs.Prelude.{option_to_list, is_some}
 use Rattle.std.specs.List.{AllByRecursion, AllZip, slice_get}
 use Rattle.gix_refspec_text.specs.declared.parsing.Operation.TheVariants as operation
 use Rattle.gix_refspec_text.specs.Specs.Reading.{Reading}

@@ -1,5 +1,5 @@
 -- The prefixes that a group asks for, and the report that a key lacks its value.
-use Rattle.std.proofs.Common.{◌≡◌, ◌≢◌, ℕ, true, false, List, [], ◌∷◌, Some, ap, arith, codes, inl, inr}
+use Rattle.std.proofs.Common.{◌≡◌, ℕ, true, false, List, [], ◌∷◌, Some, ap, arith, codes, inl, inr}
 use Rattle.std.proofs.Common.{length, refl, subst}
 use Rattle.std.proofs.lemmas.Bool.{false≢true}
 use Rattle.gix_refspec.specs.Specs.Grammar.{fetched}

@@ -4,7 +4,7 @@ use Rattle.gix_refspec_why.specs.declared.Fate.TheVariants as fate
 use Rattle.gix_refspec_why.specs.declared.Mismatch.TheVariants as mismatch
 use Rattle.refspec_io.specs.declared.call.Form.TheVariants as form
 use Rattle.refspec_commands.specs.declared.fates.question.Known.TheVariants as known
-use Rattle.refspec_commands.specs.Fates.{IsVerdict, Verdict, WritesNone, WritesSome, fate_word, known_by, verdicts_from}
+use Rattle.refspec_commands.specs.Fates.{IsVerdict, Verdict, WritesNone, WritesSome, known_by, verdicts_from}
 
 -- a spec that stores the ref, and one that is for another name
 abbrev stores : Verdict

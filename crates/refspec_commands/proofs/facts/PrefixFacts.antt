@@ -1,5 +1,5 @@
 -- Which prefixes are requested, as lines of protocol v2 and as patterns, and which aren't.
-use Rattle.std.proofs.Common.{◌≡◌, ◌≢◌, ℕ, true, false, List, [], ◌∷◌, ◌++◌, Some, Vec, Global, inl, inr, codes, length}
+use Rattle.std.proofs.Common.{◌≡◌, ◌≢◌, ℕ, List, [], ◌∷◌, ◌++◌, Some, Vec, Global, inl, inr, codes, length}
 use Rattle.std.proofs.Common.{map, refl, sym, ap, ◌∙◌, subst, arith}
 use Rattle.std.specs.Str.{chars, is_utf8}
 use Rattle.gix_refspec.specs.Specs.Grammar.{fetched}

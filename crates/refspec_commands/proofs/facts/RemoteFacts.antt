@@ -1,5 +1,5 @@
 -- What is reported of prefetches and of renamed values.
-use Rattle.std.proofs.Common.{◌≡◌, [], ◌∷◌, ◌++◌, None, Some, ap, arith, codes, inl, length, refl}
+use Rattle.std.proofs.Common.{[], ◌∷◌, ◌++◌, None, Some, ap, arith, codes, inl, length, refl}
 use Rattle.refspec_io.specs.declared.call.Form.TheVariants as form
 use Rattle.refspec_commands.specs.Prefetches as prefetch
 use Rattle.refspec_commands.specs.Renames as rename

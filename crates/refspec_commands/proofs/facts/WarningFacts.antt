@@ -1,15 +1,13 @@
 -- Which warnings there are, where they go, and what they do to the exit status.
 use Rattle.std.proofs.Common.{◌≡◌, ◌++◌, true, false, ℕ, List, [], ◌∷◌, arith, ap, codes, inl, inr, length}
 use Rattle.std.proofs.Common.{length-append, refl, sym, subst, ◌∙◌}
-use Rattle.gix_refspec_text.specs.Texts.Words.{BeginsWith}
 use Rattle.refspec_io.specs.declared.call.Form.TheVariants as form
-use Rattle.refspec_io.specs.declared.checked.Checked.{Checked}
 use Rattle.refspec_io.specs.declared.report.Report.{Report}
 use Rattle.refspec_io.specs.Read.{AreGood, HasBad}
 use Rattle.refspec_io.specs.Texts.{at_argument}
 use Rattle.refspec_commands.specs.declared.checking.Answer.{Answer}
 use Rattle.refspec_commands.specs.declared.warnings.Warning.{Warning}
-use Rattle.refspec_commands.specs.Warned.{AddsSaid, AreInTurn, IsSaidText, Said, nothing_asked}
+use Rattle.refspec_commands.specs.Warned.{AddsSaid, AreInTurn, Said, nothing_asked}
 use Rattle.refspec_commands.specs.Warnings.{IsStatus, IsStrictStatus, WarnsIf}
 
 -- a warning with this name

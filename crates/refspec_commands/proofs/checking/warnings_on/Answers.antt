@@ -1,6 +1,5 @@
 -- There are none, or those on the texts.
 use Rattle.std.proofs.Common.{ap, map}
-use Rattle.std.specs.declared.alloc.AllocError.{AllocError}
 use Rattle.refspec_commands.specs.WarnedViews.{asked_at, said_of, seen_of}
 use Rattle.refspec_commands.proofs.KeyLemmas.{WarnsIf-none, WarnsIf-said}
 use Rattle.refspec_commands.proofs.checking.warnings_on.Goals as goal

@@ -1,5 +1,5 @@
 -- The refs of the input are those of the question.
-use Rattle.std.proofs.Common.{ℕ, List, [], ap, inr, map, refl, subst}
+use Rattle.std.proofs.Common.{ℕ, [], ap, inr, map, refl, subst}
 use Rattle.gix_refspec.specs.Views.Group.{ref_of}
 use Rattle.refspec_io.specs.declared.report.Report.{Report}
 use Rattle.refspec_io.specs.Refs.{ListsNames}

@@ -1,9 +1,8 @@
 -- Each effect is reported after the others.
-use Rattle.std.proofs.Common.{ℕ, List, [], get_or, length, map, refl, subst, sym, take_all, ap, unwrap_or, ◌∙◌}
+use Rattle.std.proofs.Common.{ℕ, List, [], map, refl, subst, sym, take_all, unwrap_or, ◌∙◌}
 use Rattle.std.specs.List.{slice_get}
 use Rattle.bstr.specs.Owned.{bstring_bytes}
 use Rattle.gix_refspec_why.specs.declared.Effect.{Effect}
-use Rattle.gix_refspec_why.specs.Views.Why.{effect_of}
 use Rattle.refspec_io.specs.declared.call.Form.{Form}
 use Rattle.refspec_commands.specs.Each.{AddsEach, AddsOne}
 use Rattle.refspec_commands.specs.Fates.{IsVerdict, Verdict, verdicts_from}
