@@ -12,7 +12,7 @@ import tempfile
 from pathlib import Path
 
 sys.path.insert(0, str(Path(__file__).resolve().parents[1]))
-from helpers import ORACLE, parser, samples, stop, use
+from helpers import ORACLE, paths, samples, stop, use
 
 use(ORACLE)
 import gitprefixes
@@ -25,8 +25,7 @@ def stored():
 
 
 def main():
-    options = parser(__doc__, "refspec").parse_args()
-    program, count = Path(options.refspec).resolve(), 0
+    program, count = paths(__doc__, "refspec"), 0
     with tempfile.TemporaryDirectory() as folder:
         for group in stored():
             made = subprocess.run([program, "prefixes", "-z", "--", *group.specs], capture_output=True, check=False)
