@@ -1,5 +1,5 @@
 -- Answers to a call.
-use Rattle.std.proofs.Common.{◌≡◌, ◌≢◌, ◌⊎◌, ◌∙◌, inl, inr, IfErr, IfOk, List, None, Option, Some, Result, Err, Ok}
+use Rattle.std.proofs.Common.{◌≡◌, ◌≢◌, ◌∙◌, inl, inr, IfErr, IfOk, List, None, Some, Result, Err, Ok}
 use Rattle.std.proofs.Common.{sym, ℕ}
 use Rattle.refspec_io.specs.declared.fault.Fault.{Fault}
 use Rattle.refspec_io.specs.declared.settings.Setting.{Setting}

@@ -12,7 +12,6 @@ use Rattle.refspec_request.specs.declared.arguments.Subcommand.TheVariants as co
 use Rattle.refspec_request.specs.declared.ask.GitCall.TheVariants as call
 use Rattle.refspec_request.specs.declared.choice.Choice.{Choice}
 use Rattle.refspec_request.specs.declared.choice.Repository.{Repository}
-use Rattle.refspec_request.specs.declared.output.Output.{Output}
 use Rattle.refspec_request.specs.declared.refusal.Refusal.{Refusal}
 use Rattle.refspec_request.specs.declared.refusal.Refusal.TheVariants as refusal
 use Rattle.refspec_request.specs.declared.usage.TheConstants.{OPTIONS, USAGE, VERSION}

@@ -1,6 +1,6 @@
 -- What `git refspec check` finds and reports, and its exit status. This project's own rule. Which warnings there are on
 -- remotes, and the messages, are left open.
-use Rattle.std.specs.Prelude.{◌≡◌, ◌≢◌, ◌⊎◌, ℕ, [], ◌∷◌, ◌++◌, ◌+◌, ⊤, ◌^◌, ◌-◌, Bool, IsTrue, List, MatchOption}
+use Rattle.std.specs.Prelude.{◌≡◌, ◌⊎◌, ℕ, [], ◌∷◌, ◌++◌, ◌+◌, ⊤, ◌^◌, ◌-◌, Bool, IsTrue, List, MatchOption}
 use Rattle.std.specs.Prelude.{None, Option, Some, codes, cond, decimal, length, map, max, min, not, true}
 use Rattle.std.specs.List.{All}
 use Rattle.refspec_io.specs.declared.call.Form.TheVariants as form

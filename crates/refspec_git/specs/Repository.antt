@@ -1,6 +1,6 @@
 -- The repository of a call, by what Git printed of it and by its folders: git-config(1), gitrepository-layout(5) and
 -- the section on remotes of git-fetch(1).
-use Rattle.std.specs.Prelude.{◌≡◌, ◌≢◌, ◌⊎◌, ℕ, Bool, false, List, [], ◌∷◌, ◌++◌, Option, None, Some, codes, map}
+use Rattle.std.specs.Prelude.{◌≡◌, ◌≢◌, ◌⊎◌, ℕ, Bool, false, List, [], ◌∷◌, ◌++◌, None, Some, codes, map}
 use Rattle.std.specs.Str.{IsUtf8}
 use Rattle.std.specs.String.{string_bytes}
 use Rattle.gix_refspec_text.specs.Texts.Words.{BeginsWith}

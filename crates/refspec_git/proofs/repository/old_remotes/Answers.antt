@@ -1,5 +1,5 @@
 -- The remotes of both folders are added.
-use Rattle.std.proofs.Common.{◌≡◌, ◌∙◌, ◌++◌, inl, List, ap, codes, subst, ℕ}
+use Rattle.std.proofs.Common.{◌∙◌, ◌++◌, inl, List, ap, codes, subst, ℕ}
 use Rattle.refspec_git.specs.Repository.{AreFilesIn}
 use Rattle.refspec_git.proofs.repository.old_remotes.Goals as goal
 
