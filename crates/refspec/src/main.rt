@@ -36,7 +36,7 @@ fn main(rt: HostRuntime) -> ExitCode {
     })
 }
 
-// The arguments of the call, after the name of the program.
+// The arguments of the call, behind the name of the program.
 fn arguments_of<R: env::Env + AllocGlobal>(rt: &R) -> io::Result<Vec<String>> {
     let mut arguments = Vec::new(rt.alloc());
     for argument in env::args(rt)? {
@@ -45,8 +45,32 @@ fn arguments_of<R: env::Env + AllocGlobal>(rt: &R) -> io::Result<Vec<String>> {
     Ok(arguments)
 }
 
-// Runs what the arguments ask for, and returns the exit status.
+// Runs what the arguments ask for, and returns the exit status. A call of `git refspec` isn't parsed, as that takes
+// half of a small stack.
 fn run_arguments(rt: &HostRuntime, arguments: &[String]) -> u8 {
+    match folder_of(arguments) {
+        Some(folder) => run_git(rt, folder),
+        None => run_parsed(rt, arguments),
+    }
+}
+
+// The folder of a call of `git refspec`, as bin/git-refspec names it.
+fn folder_of(arguments: &[String]) -> Option<&str> {
+    match arguments {
+        [_, word, folder] if word.as_str() == "git" && is_path(folder.as_str()) => Some(
+            folder.as_str(),
+        ),
+        _ => None,
+    }
+}
+
+// Whether an argument is the name of a file that looks like no option.
+fn is_path(argument: &str) -> bool {
+    !argument.is_empty() && !argument.starts_with('-')
+}
+
+// Runs what the arguments ask for, once they are parsed, and returns the exit status.
+fn run_parsed(rt: &HostRuntime, arguments: &[String]) -> u8 {
     let Ok(command) = command_line(rt.alloc()) else {
         return fail(rt, Fault::Memory);
     };
