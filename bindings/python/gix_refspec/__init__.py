@@ -66,8 +66,8 @@ class Outcome(enum.IntEnum):
 
 class Request(enum.Enum):
     """What to request from a server without ref prefixes: nothing, so that no request is to be sent, or all refs."""
-    NOTHING = 1
-    ALL = 2
+    NOTHING = enum.auto()
+    ALL = enum.auto()
 
 
 class Mode(enum.IntEnum):
