@@ -184,6 +184,11 @@ impl<'a> Text<'a> {
     pub fn new(text: &'a [u8]) -> Self {
         Text { raw: text_of(text), text: PhantomData }
     }
+
+    pub fn bytes(&self) -> &'a [u8] {
+        // SAFETY: the text was made of bytes that are borrowed for as long.
+        unsafe { bytes_of(&self.raw) }
+    }
 }
 
 /// How specs map refs.

@@ -62,15 +62,15 @@ impl<'spec> MatchGroup<'spec> {
                 return match_lhs::Outcome { group: self, mappings: mapping.into_iter().collect() };
             }
         }
-        let names: Vec<&BStr> = items.map(|item| item.full_ref_name).collect();
-        let matched = self.matched_names(&names);
+        let names = names_of(items);
+        let matched = self.matched_names(&names, sys::FORWARD);
         let mappings = matched.iter().map(|one| {
             let item_index = (one.item != sys::NO_ITEM).then_some(one.item);
             let spec = &self.specs[one.spec];
             Mapping {
                 item_index,
                 lhs: match item_index {
-                    Some(index) => SourceRef::FullName(Cow::Borrowed(names[index])),
+                    Some(index) => SourceRef::FullName(Cow::Borrowed(names[index].bytes().as_bstr())),
                     None => SourceRef::ObjectId(id_of(matched.id(one))),
                 },
                 rhs: (one.has_destination != 0).then(|| name_of(spec.full_destination(), matched.made(one))),
@@ -105,24 +105,18 @@ impl<'spec> MatchGroup<'spec> {
                 return match_rhs::Outcome { group: self, mappings: mapping.into_iter().collect() };
             }
         }
-        let items: Vec<Item<'item>> = items.collect();
-        let digits: Vec<[BString; 2]> = match self.specs.iter().any(RefSpecRef::may_ask_for_id) {
-            true => items.iter().map(digits_of).collect(),
-            false => Vec::new(),
+        let (names, matched) = if self.specs.iter().any(RefSpecRef::may_ask_for_id) {
+            let items: Vec<_> = items.collect();
+            (names_of(items.iter().copied()), self.matched_ids(&items))
+        } else {
+            let names = names_of(items);
+            let matched = self.matched_names(&names, sys::BACKWARD);
+            (names, matched)
         };
-        let refs: Vec<_> = items
-            .iter()
-            .enumerate()
-            .map(|(index, item)| match digits.get(index) {
-                Some([target, object]) => calls::Ref::new(item.full_ref_name, target, object),
-                None => calls::Ref::new(item.full_ref_name, b"", b""),
-            })
-            .collect();
-        let matched = self.matched(&refs, sys::BACKWARD);
         let mappings = matched.iter().map(|one| Mapping {
             item_index: Some(one.item),
             lhs: SourceRef::FullName(name_of(self.specs[one.spec].full_source(), matched.made(one))),
-            rhs: Some(Cow::Borrowed(items[one.item].full_ref_name)),
+            rhs: Some(Cow::Borrowed(names[one.item].bytes().as_bstr())),
             spec_index: one.spec,
         });
         let mappings = mappings.collect();
@@ -144,15 +138,25 @@ impl<'spec> MatchGroup<'spec> {
         }
     }
 
-    /// How the specs map names from left to right, where ids don't count. Fetches need less memory for it.
-    fn matched_names(&self, names: &[&BStr]) -> calls::Mappings {
+    /// How the specs map names, where ids don't count. Fetches need less memory for it.
+    fn matched_names(&self, names: &[calls::Text<'_>], direction: u32) -> calls::Mappings {
         if self.specs.iter().any(|spec| spec.operation() == Operation::Push) {
-            let refs: Vec<_> = names.iter().map(|name| calls::Ref::new(name, b"", b"")).collect();
-            return self.matched(&refs, sys::FORWARD);
+            let refs: Vec<_> = names.iter().map(|name| calls::Ref::new(name.bytes(), b"", b"")).collect();
+            return self.matched(&refs, direction);
         }
         let fetches: Vec<_> = self.specs.iter().map(|spec| calls::Text::new(spec.text())).collect();
-        let names: Vec<_> = names.iter().map(|name| calls::Text::new(name)).collect();
-        answered(calls::matched_names(&fetches, &names, sys::FORWARD))
+        answered(calls::matched_names(&fetches, names, direction))
+    }
+
+    /// How they map items from right to left, where ids count.
+    fn matched_ids(&self, items: &[Item<'_>]) -> calls::Mappings {
+        let digits: Vec<[BString; 2]> = items.iter().map(digits_of).collect();
+        let refs: Vec<_> = items
+            .iter()
+            .zip(&digits)
+            .map(|(item, [target, object])| calls::Ref::new(item.full_ref_name, target, object))
+            .collect();
+        self.matched(&refs, sys::BACKWARD)
     }
 
     fn matched(&self, refs: &[calls::Ref<'_>], direction: u32) -> calls::Mappings {
@@ -183,6 +187,10 @@ impl<'spec> RefSpecRef<'spec> {
             spec_index: 0,
         })
     }
+}
+
+fn names_of<'item>(items: impl Iterator<Item = Item<'item>>) -> Vec<calls::Text<'item>> {
+    items.map(|item| calls::Text::new(item.full_ref_name)).collect()
 }
 
 fn owned_name(full: Option<&BStr>, made: Vec<u8>) -> Cow<'_, BStr> {
