@@ -40,6 +40,7 @@ NEARER = re.compile(rf"^It has {TEXT}\.$")
 RIVAL = re.compile(rf"(?:written from|what is written from) {TEXT} too by ")
 BELOW_REFS = "Write a destination below refs/."
 IN_CONFLICT = "Exclude the other source, or give one of the specs another destination."
+TWO_SOURCES = re.compile(rf"^{TEXT} is written from {TEXT} and {TEXT}: exclude one of these, or give one of the specs another destination\.$")
 LIST = "List what it has by `git ls-remote`."
 # What can't be done to a value: there is no such name, or it is for the remote to do.
 NOTHING_TO_DO = ("Give the name of a ref: this is none.", "Give the ref another name on the remote.")
@@ -99,6 +100,9 @@ class Advice:
             excluded = [*values, *dict.fromkeys(excluding)]
             return [situation._replace(values=excluded)] * bool(excluding) + [
                 situation._replace(values=[self.redirected(one, found, *kinds) for one in values])]
+        if TWO_SOURCES.match(advice):
+            sources = map(unquoted, TWO_SOURCES.match(advice).groups()[1:])
+            return [situation._replace(values=[*values, b"^" + source]) for source in sources if source != situation.name]
         stop(f"{situation}: {advice!r} isn't known")
 
     def redirected(self, value, found, *fates):

@@ -236,16 +236,12 @@ class Fates(Call):
 
     def __init__(self, remotes):
         self.fates = gitfates.Fates(os.path.join(remotes.store.folder, "fates"))
-        tracking, tags = b"value refs/heads/*:refs/x/*", b"value refs/tags/*:refs/x/*"
+        tracking = b"value refs/heads/*:refs/x/*"
         main, asked = b"ref refs/heads/main", b"name refs/heads/main"
         self.kinds = [
-            Kind("a source that the remote lacks stops the fetch", [tracking, b"value gone", main, asked], self.lacks_source),
+            Kind("a source that the remote lacks stops the fetch, of which it isn't told",
+                 [tracking, b"value gone", main, asked, b"alone"], self.lacks_source),
             Kind("an object that the remote lacks stops the fetch", [tracking, b"value " + SOME_ID, main, asked], self.lacks_object),
-            Kind("a conflict by one spec stops what another one stores",
-                 [b"value refs/heads/a:refs/x", b"value refs/heads/a:refs/y", b"value refs/tags/a:refs/x", b"ref refs/heads/a",
-                  b"ref refs/tags/a", b"name refs/heads/a"], self.is_in_own_conflict),
-            Kind("a conflict of other refs stops the fetch",
-                 [tracking, tags, b"ref refs/heads/a", b"ref refs/tags/a", main, asked], self.is_in_conflict),
             Kind("of two refs in a directory conflict Git may write one",
                  [tracking, b"value refs/heads/b:refs/x/a/y", b"ref refs/heads/a", b"ref refs/heads/b", b"name refs/heads/a",
                   b"name refs/heads/b"], self.writes_one_of_nested)]
@@ -323,15 +319,7 @@ class Fates(Call):
     def lacks_source(self, trial):
         names = self.failure(trial, b"missing")
         refs = texts_of(trial.given, b"ref")
-        return bool(names) and not any(form % names[0] in refs for form in gitknown.CANDIDATES)
-
-    def is_in_conflict(self, trial):
-        return self.failure(trial, b"conflict") is not None and not self.untold(trial)
-
-    def is_in_own_conflict(self, trial):
-        """Whether a ref that is said to be fetched is in conflict by another spec."""
-        fates = {fate: {row[1] for row in rows_of(trial.said, b"fate") if row[0] == fate} for fate in (b"fetched", b"conflict")}
-        return self.is_in_conflict(trial) and bool(set.intersection(*fates.values()))
+        return b"alone" in trial.given and bool(names) and not any(form % names[0] in refs for form in gitknown.CANDIDATES)
 
     @staticmethod
     def lacks_object(trial):

@@ -1,7 +1,7 @@
 -- The report on what specs do with a ref.
 use Rattle.std.proofs.Common.{◌≡◌, ℕ, zero, suc, ◌+◌, ◌<◌, List, [], ◌∷◌, ◌++◌, Option, option_map}
 use Rattle.std.proofs.Common.{get_or, arith, refl, sym, ap, ◌∙◌, subst, append_assoc, Bool, true, false, not, MatchBool}
-use Rattle.std.proofs.Common.{Some, inr, length, map, take, unwrap_or}
+use Rattle.std.proofs.Common.{length, map, take, unwrap_or}
 use Rattle.std.proofs.lemmas.List.{append-nil}
 use Rattle.std.specs.List.{slice_get}
 use Rattle.bstr.specs.Owned.{bstring_bytes}
@@ -19,10 +19,8 @@ use Rattle.refspec_io.proofs.RowLemmas.{fields-of}
 use Rattle.refspec_io.proofs.ShownLemmas.{behind}
 use Rattle.refspec_commands.specs.Each.{AddsEach, AddsOne}
 use Rattle.refspec_commands.specs.declared.fates.answer.Answer.{Answer}
-use Rattle.refspec_commands.specs.declared.fates.question.Known.TheVariants as known
-use Rattle.refspec_commands.specs.Fates.{AddsAnswer, IsFetched, IsUnfetched, IsVerdict, Verdict, WritesNone, WritesSome}
+use Rattle.refspec_commands.specs.Fates.{AddsAnswer, IsVerdict, Verdict}
 use Rattle.refspec_commands.specs.Fates.{fate_word, verdicts_from}
-use Rattle.refspec_commands.proofs.RemoteLemmas.{some_none}
 
 -- the verdict of a spec with this text
 abbrev pub verdict_with : List ℕ → DeclaredEffect → Verdict
@@ -96,13 +94,6 @@ verdict_object name v spec shown fate message destination old new is_spec is_nam
           ∙ (ap (λ x. old ++ line_of (fate_object text (json_text name) x fate message)) is_destination
           ∙ ap (λ x. old ++ line_of (fate_object text (json_text name) to x message)) is_fate))),
     )
-
--- whether a ref that the remote has is fetched
-pub fetched_listed : (a : Answer) (index : ℕ) (r : Bool) → a.effects.item_index ≡ Some index
-    → MatchBool r (WritesSome a.effects.of_specs.items) (WritesNone a.effects.of_specs.items)
-    → MatchBool r (IsFetched known.Listed a) (IsUnfetched known.Listed a)
-fetched_listed a index true is some = ((λ none. some_none (sym is ∙ none)), some)
-fetched_listed a index false is none = inr none
 
 -- what isn't so
 pub MatchBool-not : (b : Bool) (P Q : Type 0) → MatchBool b P Q → MatchBool (not b) Q P

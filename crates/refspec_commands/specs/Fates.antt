@@ -1,7 +1,7 @@
 -- The answer to a question of `why`, in the terms of the library, and its report: what each spec of a fetch does with
 -- one ref of a remote.
 use Rattle.std.specs.Prelude.{◌≡◌, ◌≢◌, ◌⊎◌, ℕ, ◌+◌, Bool, true, false, List, [], ◌∷◌, ◌++◌, None, MatchBool, map}
-use Rattle.std.specs.Prelude.{option_map, unwrap_or, codes}
+use Rattle.std.specs.Prelude.{MatchOption, Option, option_map, unwrap_or, codes}
 use Rattle.std.specs.Borrow.{Bor}
 use Rattle.std.specs.List.{All, Any, slice_get}
 use Rattle.bstr.specs.Owned.{bstring_bytes}
@@ -9,6 +9,8 @@ use Rattle.gix_refspec.specs.Matching.Match.{Ref}
 use Rattle.gix_refspec.specs.Specs.Reading.{Reading}
 use Rattle.gix_refspec.specs.Views.Group.{ref_of}
 use Rattle.gix_refspec.specs.Views.Spec.{reading_of}
+use Rattle.gix_refspec_plan.specs.declared.Origin.{Origin}
+use Rattle.gix_refspec_plan.specs.Matching.Plan.{IsCarriedOut, IsPlan, Planned, Wish}
 use Rattle.gix_refspec_why.specs.declared.Effect.{Effect as DeclaredEffect}
 use Rattle.gix_refspec_why.specs.declared.Fate.{Fate}
 use Rattle.gix_refspec_why.specs.declared.Fate.TheVariants as fate
@@ -32,15 +34,33 @@ use Rattle.refspec_commands.specs.declared.fates.answer.Answer.{Answer}
 use Rattle.refspec_commands.specs.declared.fates.question.Known.{Known}
 use Rattle.refspec_commands.specs.declared.fates.question.Known.TheVariants as known
 use Rattle.refspec_commands.specs.declared.fates.question.Question.{Question}
+use Rattle.refspec_commands.specs.declared.fates.stops.Stop.{Stop}
 use Rattle.refspec_commands.specs.Each.{AddsEach}
 
 -- ---- the answer
 
--- what the specs do with the ref, and their canonical texts
+-- a fetch with nothing but configured specs of these readings
+abbrev pub wish_of : List Reading → Wish
+wish_of g = record { given = []; configured = g; merges = []; tags = false }
+
+-- what stops that: something exactly if the plan isn't carried out
+pub record StopsFetch (g : List Reading) (refs : List Ref) (stop : Option Stop) : Type 0 where
+  pub planned : List Planned
+  pub missing : List Origin
+  pub plan : IsPlan (wish_of g) refs planned missing
+  pub stops : MatchOption stop (IsCarriedOut planned missing) (λ _. ¬ (IsCarriedOut planned missing))
+
+-- if the refs of the remote are known
+abbrev pub IsStopOf : Known → List Reading → List Ref → Option Stop → Type 0
+IsStopOf known.Assumed g refs stop = stop ≡ None
+IsStopOf known.Listed g refs stop = StopsFetch g refs stop
+
+-- what the specs do with the ref, their canonical texts, and what stops the whole fetch
 pub record IsAnswer (q : Question) (a : Answer) : Type 0 where
   pub explained : IsExplained (map reading_of q.specs.now) (map ref_of q.refs.now) q.name.now a.effects.item_index
       (map effect_of a.effects.of_specs.items)
   pub texts : AreSpecTexts (map reading_of q.specs.now) (map bstring_bytes a.texts.items)
+  pub stop : IsStopOf q.known (map reading_of q.specs.now) (map ref_of q.refs.now) a.stop
 
 -- some spec fetches the ref, or none does
 abbrev pub WritesSome : List DeclaredEffect → Type 0
@@ -49,15 +69,17 @@ WritesSome effects = Any (λ e. e.fate ≡ fate.Written) effects
 abbrev pub WritesNone : List DeclaredEffect → Type 0
 WritesNone effects = All (λ e. e.fate ≢ fate.Written) effects
 
--- the ref is fetched: some spec does so, and the remote has it, or is taken to have it
+-- the ref is fetched: some spec does so, and the remote is taken to have it; or has it, and nothing stops the fetch
 abbrev pub IsFetched : Known → Answer → Type 0
 IsFetched known.Assumed a = WritesSome a.effects.of_specs.items
-IsFetched known.Listed a = (a.effects.item_index ≢ None) × WritesSome a.effects.of_specs.items
+IsFetched known.Listed a =
+    (a.effects.item_index ≢ None) × WritesSome a.effects.of_specs.items × (a.stop ≡ None)
 
 -- it isn't
 abbrev pub IsUnfetched : Known → Answer → Type 0
 IsUnfetched known.Assumed a = WritesNone a.effects.of_specs.items
-IsUnfetched known.Listed a = (a.effects.item_index ≡ None) ⊎ WritesNone a.effects.of_specs.items
+IsUnfetched known.Listed a =
+    (a.effects.item_index ≡ None) ⊎ WritesNone a.effects.of_specs.items ⊎ (a.stop ≢ None)
 
 -- ---- the report
 

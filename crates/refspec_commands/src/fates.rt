@@ -11,9 +11,11 @@ pub mod answer;
 pub mod question;
 pub mod report;
 mod sentences;
+pub mod stops;
+mod ways;
 
 use crate::fates::answer::answer_to;
-use crate::fates::question::{Known, Question};
+use crate::fates::question::{Holder, Known, Question};
 use crate::fates::report::report_answer;
 use gix_refspec::RefSpecRef;
 use gix_refspec::oid::{Kind, ObjectId};
@@ -50,7 +52,7 @@ pub(crate) fn report_fates(
         known: known_by(task.call),
     };
     let answer = answer_to(alloc, &question)?;
-    report_answer(alloc, &question, &answer, report)?;
+    report_answer(alloc, &question, Holder::List, &answer, report)?;
     Ok(!answer.is_fetched(question.known))
 }
 

@@ -65,6 +65,61 @@ fn part_stored(name: &[u8]) -> &[u8] {
     }
 }
 
+// Appends the command that adds a value for a branch to a remote.
+pub(crate) fn write_branch_command(
+    remote: &[u8],
+    branch: &[u8],
+    out: &mut Vec<u8>,
+) -> Result<(), AllocError> {
+    out.extend_from_slice(b"`git remote set-branches --add ")?;
+    write_argument(remote, out)?;
+    out.push(b' ')?;
+    write_argument(branch, out)?;
+    Ok(out.push(b'`')?)
+}
+
+// Appends the command that adds a value to a remote.
+pub(crate) fn write_value_command(
+    remote: &[u8],
+    value: &[u8],
+    out: &mut Vec<u8>,
+) -> Result<(), AllocError> {
+    out.extend_from_slice(b"`git config --add remote.")?;
+    write_argument(remote, out)?;
+    out.extend_from_slice(b".fetch ")?;
+    write_argument(value, out)?;
+    Ok(out.push(b'`')?)
+}
+
+// Appends an argument of a command as a shell reads it: in single quotes, unless all its bytes mean themselves. One with
+// control characters, which no ref name has, is written as in other messages.
+pub(crate) fn write_argument(text: &[u8], out: &mut Vec<u8>) -> Result<(), AllocError> {
+    if text.iter().all(|byte| means_itself(*byte)) || !is_printable(text) {
+        return write_in_message(out, text);
+    }
+    out.push(b'\'')?;
+    for byte in text {
+        if *byte == b'\'' {
+            out.extend_from_slice(b"'\\'")?;
+        }
+        out.push(*byte)?;
+    }
+    Ok(out.push(b'\'')?)
+}
+
+// Whether a byte means itself to a shell.
+fn means_itself(byte: u8) -> bool {
+    byte.is_ascii_alphanumeric() || b"%+,-./:=@_".contains(&byte) || byte >= 128
+}
+
+// Whether a text is UTF-8 without control characters.
+fn is_printable(text: &[u8]) -> bool {
+    match str::from_utf8(text) {
+        Ok(text) => text.chars().all(|c| !c.is_control()),
+        Err(_) => false,
+    }
+}
+
 // Appends that a spec is to be added, after these words.
 pub(crate) fn write_addition(
     words: &[u8],

@@ -1,8 +1,10 @@
 //! Why a ref isn't fetched, and what to do.
 
 use crate::fates::answer::Answer;
-use crate::fates::question::{Known, Question};
-use crate::full_names::{full_name, spec_storing, write_addition, write_removal};
+use crate::fates::question::{Holder, Known, Question};
+use crate::fates::stops::{Contest, Stop};
+use crate::fates::ways::{write_addition, write_exchange, write_list, write_removal};
+use crate::full_names::{full_name, write_argument};
 use gix_refspec::match_group::ref_names::is_ref_name;
 use gix_refspec_text::side::strip_refs;
 use gix_refspec_why::{Effect, Fate};
@@ -23,22 +25,29 @@ pub(crate) struct Lack {
 pub(crate) fn advice_on(
     alloc: Global,
     question: &Question<'_, '_, '_>,
+    holder: Holder<'_>,
     answer: &Answer,
 ) -> Result<Lack, AllocError> {
     if question.known == Known::Listed && answer.effects.item_index.is_none() {
         return Ok(Lack {
             message: "The remote has no such ref.",
-            advice: nearest_advice(alloc, question)?,
+            advice: nearest_advice(alloc, question, holder)?,
+        });
+    }
+    if let Some(stop) = stop_of_stored(answer) {
+        return Ok(Lack {
+            message: stop_message(stop),
+            advice: stop_advice(alloc, holder, answer, stop)?,
         });
     }
     match first_obstacle(answer) {
         None => Ok(Lack {
             message: "No spec fetches this ref.",
-            advice: fetching_advice(alloc, question, answer)?,
+            advice: fetching_advice(alloc, question, holder, answer)?,
         }),
         Some(Obstacle::Excluded(index)) => Ok(Lack {
             message: "A negative spec excludes this ref.",
-            advice: removal(alloc, text_at(answer.texts.as_slice(), index))?,
+            advice: removal(alloc, holder, text_at(answer.texts.as_slice(), index))?,
         }),
         Some(Obstacle::Name) => Ok(Lack {
             message: "Git leaves this ref out, as its name isn't a valid one.",
@@ -46,7 +55,7 @@ pub(crate) fn advice_on(
         }),
         Some(Obstacle::Destination(fault)) => Ok(Lack {
             message: "Git leaves this ref out, as no spec stores it in a ref with a valid name.",
-            advice: destination_advice(alloc, question.name, fault)?,
+            advice: destination_advice(alloc, question, holder, fault)?,
         }),
         Some(Obstacle::Conflict) => Ok(Lack {
             message: "This ref is in conflict with another one, so it isn't fetched.",
@@ -56,6 +65,56 @@ pub(crate) fn advice_on(
             )?,
         }),
     }
+}
+
+// What stops the fetch, where some spec stores the ref.
+fn stop_of_stored(answer: &Answer) -> Option<&Stop> {
+    if !answer.is_stored() {
+        return None;
+    }
+    match &answer.stop {
+        None => None,
+        Some(stop) => Some(stop),
+    }
+}
+
+// That something stops a fetch.
+fn stop_message(stop: &Stop) -> &'static str {
+    match stop {
+        Stop::Missing(_) => "Git fetches nothing, as the remote lacks the source of a spec.",
+        Stop::Conflict(_) => "Git fetches nothing, as two refs have one destination.",
+        Stop::Other => "Git fetches nothing.",
+    }
+}
+
+// What to do about what stops a fetch.
+fn stop_advice(
+    alloc: Global,
+    holder: Holder<'_>,
+    answer: &Answer,
+    stop: &Stop,
+) -> Result<Vec<u8>, AllocError> {
+    let mut advice = Vec::new(alloc);
+    match stop {
+        Stop::Missing(index) => {
+            let text = text_at(answer.texts.as_slice(), *index);
+            write_removal(holder, text, &mut advice)?;
+            advice.push(b'.')?;
+        }
+        Stop::Conflict(contest) => write_contest(contest, &mut advice)?,
+        Stop::Other => advice.extend_from_slice(b"`git fetch` says why.")?,
+    }
+    Ok(advice)
+}
+
+// Appends which two refs have one destination, and what to do.
+fn write_contest(contest: &Contest, out: &mut Vec<u8>) -> Result<(), AllocError> {
+    write_in_message(out, contest.destination.as_bytes())?;
+    out.extend_from_slice(b" is written from ")?;
+    write_in_message(out, contest.first.as_bytes())?;
+    out.extend_from_slice(b" and ")?;
+    write_in_message(out, contest.other.as_bytes())?;
+    out.extend_from_slice(b": exclude one of these, or give one of the specs another destination.")
 }
 
 // What is in the way of a ref that some spec maps.
@@ -103,18 +162,27 @@ fn fault_of(effect: &Effect) -> Fault {
 }
 
 // That a negative spec is to be left out.
-fn removal(alloc: Global, text: &[u8]) -> Result<Vec<u8>, AllocError> {
+fn removal(alloc: Global, holder: Holder<'_>, text: &[u8]) -> Result<Vec<u8>, AllocError> {
     let mut advice = Vec::new(alloc);
-    write_removal(text, &mut advice)?;
+    write_removal(holder, text, &mut advice)?;
     advice.extend_from_slice(b", or let it exclude less.")?;
     Ok(advice)
 }
 
 // What to do about an invalid destination. Another ref may have a valid one by the same pattern, so that stays.
-fn destination_advice(alloc: Global, name: &[u8], fault: Fault) -> Result<Vec<u8>, AllocError> {
+fn destination_advice(
+    alloc: Global,
+    question: &Question<'_, '_, '_>,
+    holder: Holder<'_>,
+    fault: Fault,
+) -> Result<Vec<u8>, AllocError> {
     match fault {
         Fault::Outside => Vec::from_slice(alloc, b"Write a destination below refs/."),
-        Fault::Name => addition(alloc, b"Add a spec such as ", name),
+        Fault::Name => {
+            let mut advice = Vec::new(alloc);
+            write_addition(alloc, question, holder, &mut advice)?;
+            Ok(advice)
+        }
     }
 }
 
@@ -123,18 +191,21 @@ fn destination_advice(alloc: Global, name: &[u8], fault: Fault) -> Result<Vec<u8
 fn fetching_advice(
     alloc: Global,
     question: &Question<'_, '_, '_>,
+    holder: Holder<'_>,
     answer: &Answer,
 ) -> Result<Vec<u8>, AllocError> {
     if !is_ref_name(question.name) {
         return name_advice(alloc, question);
     }
-    let Some(index) = first_exclusion(answer) else {
-        return addition(alloc, b"Add a spec such as ", question.name);
-    };
-    let mut words = Vec::new(alloc);
-    write_removal(text_at(answer.texts.as_slice(), index), &mut words)?;
-    words.extend_from_slice(b", and add a spec such as ")?;
-    addition(alloc, words.as_slice(), question.name)
+    let mut advice = Vec::new(alloc);
+    match first_exclusion(answer) {
+        None => write_addition(alloc, question, holder, &mut advice)?,
+        Some(index) => {
+            let text = text_at(answer.texts.as_slice(), index);
+            write_exchange(alloc, question, holder, text, &mut advice)?;
+        }
+    }
+    Ok(advice)
 }
 
 // The index of the first negative spec that excludes the ref. `None` if none does.
@@ -163,16 +234,15 @@ fn name_advice(alloc: Global, question: &Question<'_, '_, '_>) -> Result<Vec<u8>
     Ok(advice)
 }
 
-// Which spec fetches a ref, after these words.
-fn addition(alloc: Global, words: &[u8], name: &[u8]) -> Result<Vec<u8>, AllocError> {
-    let spec = spec_storing(alloc, name, b"origin")?;
-    let mut advice = Vec::new(alloc);
-    write_addition(words, spec.as_bytes(), &mut advice)?;
-    Ok(advice)
-}
-
-// Which ref of the remote may be meant.
-fn nearest_advice(alloc: Global, question: &Question<'_, '_, '_>) -> Result<Vec<u8>, AllocError> {
+// Which ref of the remote may be meant, or which command says more.
+fn nearest_advice(
+    alloc: Global,
+    question: &Question<'_, '_, '_>,
+    holder: Holder<'_>,
+) -> Result<Vec<u8>, AllocError> {
+    if let Some(path) = tracking_path(question.name, holder) {
+        return track_advice(alloc, path);
+    }
     let names = question
         .refs
         .iter()
@@ -185,7 +255,34 @@ fn nearest_advice(alloc: Global, question: &Question<'_, '_, '_>) -> Result<Vec<
             return Ok(advice);
         }
     }
-    Vec::from_slice(alloc, b"List what it has by `git ls-remote`.")
+    let mut advice = Vec::new(alloc);
+    write_list(holder, &mut advice)?;
+    Ok(advice)
+}
+
+// The path of a tracking ref of the remote, as `origin/main`, if the ref is named so.
+fn tracking_path<'q>(name: &'q [u8], holder: Holder<'_>) -> Option<&'q [u8]> {
+    let Holder::Remote(remote) = holder else {
+        return None;
+    };
+    let path = match name.strip_prefix(b"refs/remotes/") {
+        Some(path) => path,
+        None => name.strip_prefix(b"refs/heads/")?,
+    };
+    let rest = path.strip_prefix(remote.name)?;
+    if rest.starts_with(b"/") {
+        Some(path)
+    } else {
+        None
+    }
+}
+
+// That a tracking ref is named, and which command says where it comes from.
+fn track_advice(alloc: Global, path: &[u8]) -> Result<Vec<u8>, AllocError> {
+    let mut advice = Vec::from_slice(alloc, b"If that is a ref here, `git refspec track ")?;
+    write_argument(path, &mut advice)?;
+    advice.extend_from_slice(b"` says from which ref of the remote it comes.")?;
+    Ok(advice)
 }
 
 // Whether a name is another one behind a slash, as `refs/heads/main` is `main`.

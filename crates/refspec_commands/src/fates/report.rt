@@ -11,7 +11,7 @@ ghost use Rattle.refspec_commands.specs.FateViews.{verdict_of};
 
 use crate::fates::advice::advice_on;
 use crate::fates::answer::Answer;
-use crate::fates::question::Question;
+use crate::fates::question::{Holder, Question};
 use crate::fates::sentences::{Names, sentence_on};
 use gix_refspec_why::{Effect, Fate, Mismatch};
 use refspec_io::call::Form;
@@ -28,6 +28,7 @@ use std::alloc::{AllocError, Global};
 pub fn report_answer(
     alloc: Global,
     question: &Question<'_, '_, '_>,
+    holder: Holder<'_>,
     answer: &Answer,
     report: &mut Report,
 ) -> Result<(), AllocError>
@@ -42,7 +43,7 @@ pub fn report_answer(
     if answer.is_fetched(question.known) {
         return Ok(());
     }
-    report_lack(alloc, &names, answer, report)
+    report_lack(alloc, question, holder, answer, report)
 }
 
 // Reports what each spec does with the ref.
@@ -226,16 +227,17 @@ fn mismatch_word_of(mismatch: Mismatch) -> &'static str
 // Reports that the ref isn't fetched, and what to do.
 fn report_lack(
     alloc: Global,
-    names: &Names<'_, '_, '_, '_>,
+    question: &Question<'_, '_, '_>,
+    holder: Holder<'_>,
     answer: &Answer,
     report: &mut Report,
 ) -> Result<(), AllocError>
     ensures { OnOk result (KeepsReport report.old report.new) }
 {
-    let lack = advice_on(alloc, names.question, answer)?;
+    let lack = advice_on(alloc, question, holder, answer)?;
     match report.form {
         Form::Json => {
-            let name = json::text_of(alloc, names.question.name)?;
+            let name = json::text_of(alloc, question.name)?;
             let advice = json::text_of(alloc, lack.advice.as_slice())?;
             let object = refspec_json::NotFetched {
                 name: name.as_str(),
@@ -246,7 +248,7 @@ fn report_lack(
         }
         Form::Lines | Form::Zeros => {
             let out = &mut report.messages;
-            write_in_message(out, names.question.name)?;
+            write_in_message(out, question.name)?;
             out.extend_from_slice(b": ")?;
             out.extend_from_slice(lack.message.as_bytes())?;
             out.extend_from_slice(b"\n    ")?;

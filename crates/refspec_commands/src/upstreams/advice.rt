@@ -1,6 +1,9 @@
 //! What would give a branch an upstream.
 
-use crate::full_names::{full_name, spec_storing, write_addition, write_removal};
+use crate::full_names::{
+    full_name, spec_storing, write_addition, write_branch_command, write_removal,
+    write_value_command,
+};
 use crate::upstreams::answer::text_at;
 use crate::upstreams::question::{Merged, Setup};
 use bstr::BStr;
@@ -157,20 +160,10 @@ fn write_command(
     out: &mut Vec<u8>,
 ) -> Result<(), AllocError> {
     match merged.name.strip_prefix(b"refs/heads/") {
-        Some(branch) if !merged.specs.is_empty() => {
-            out.extend_from_slice(b"`git remote set-branches --add ")?;
-            write_in_message(out, remote)?;
-            out.push(b' ')?;
-            write_in_message(out, branch)?;
-        }
-        _ => {
-            out.extend_from_slice(b"`git config --add remote.")?;
-            write_in_message(out, remote)?;
-            out.extend_from_slice(b".fetch ")?;
-            write_in_message(out, value)?;
-        }
+        Some(branch) if !merged.specs.is_empty() => write_branch_command(remote, branch, out)?,
+        _ => write_value_command(remote, value, out)?,
     }
-    out.extend_from_slice(b"` adds a value that stores it.")
+    out.extend_from_slice(b" adds a value that stores it.")
 }
 
 // Appends that the remote is to have a name: below this one no refs can be stored.

@@ -14,4 +14,5 @@ returns c =
       explained = subst (λ (n : List ℕ). IsExplained (map reading_of q.specs.now) (map ref_of q.refs.now) n
           effects.item_index (map effect_of effects.of_specs.items)) c.new.ensures c.in_ok-effects.ensures;
       texts = c.in_ok-texts.ensures;
+      stop = c.in_ok-stop.ensures;
     }
