@@ -3,7 +3,7 @@
 # The command of git refspec among the words, if there is one.
 function __fish_git_refspec_command
     for word in (commandline -opc)
-        if contains -- $word check plan stale track upstream prefixes
+        if contains -- $word check plan stale track upstream why prefixes
             echo $word
             return 0
         end
@@ -35,6 +35,7 @@ complete -c git -n $none -a plan -d 'Tell what git fetch would write'
 complete -c git -n $none -a stale -d 'List the refs here that git fetch --prune would delete'
 complete -c git -n $none -a track -d 'Tell from which refs tracking refs are fetched'
 complete -c git -n $none -a upstream -d 'Show which tracking refs are the upstreams of branches'
+complete -c git -n $none -a why -d 'Show why git fetch takes a ref of the remote'
 complete -c git -n $none -a prefixes -d 'List the ref prefixes to ask the server for'
 complete -c git -n $none -l version -d 'Print the version'
 complete -c git -n $any -s h -d 'Print a page'
@@ -51,9 +52,11 @@ complete -c git -n '__fish_git_refspec_is plan' -l all -d 'Tell every conflict a
 complete -c git -n '__fish_git_refspec_is plan' -l prune -d 'List the refs that a pruning fetch would delete too'
 complete -c git -n '__fish_git_refspec_is plan' -l refmap -x -d 'A spec to use instead of the fetch values'
 complete -c git -n '__fish_git_refspec_is prefixes' -l patterns -d 'Write patterns for git ls-remote'
-complete -c git -n '__fish_git_refspec_is check plan stale prefixes' -a '(__fish_git_refspec_git remote)' -d Remote
+complete -c git -n '__fish_git_refspec_is check plan stale why prefixes' -a '(__fish_git_refspec_git remote)' -d Remote
 complete -c git -n '__fish_git_refspec_is upstream' \
     -a '(__fish_git_refspec_git for-each-ref --format="%(refname:lstrip=2)" refs/heads)' -d Branch
+complete -c git -n '__fish_git_refspec_is why' \
+    -a '(__fish_git_refspec_git for-each-ref --format="%(refname:lstrip=3)" refs/remotes)' -d Ref
 complete -c git -n '__fish_git_refspec_is track' \
     -a '(__fish_git_refspec_git for-each-ref --format="%(refname:short)" refs/remotes)' -d 'Tracking ref'
 complete -c git -n '__fish_git_refspec_is track; and string match -q "refs/*" -- (commandline -ct)' \

@@ -63,7 +63,8 @@ COMMANDS = [
 # The arguments of `git refspec`.
 CALLS = [
     ["check", "-v"], ["plan", "--prune", "--json", "origin"], ["plan", "origin", "main", "nosuch"], ["stale", "origin"],
-    ["track", "@{u}", "origin/main", "--json"], ["upstream"], ["upstream", "--json", "main", "HEAD"], ["prefixes", "--patterns"], ["plan", "--no"],
+    ["track", "@{u}", "origin/main", "--json"], ["upstream"], ["upstream", "--json", "main", "HEAD"],
+    ["why", "main", "origin"], ["why", "--json", "nosuch"], ["prefixes", "--patterns"], ["plan", "--no"],
 ]
 MANY = b"".join(b"%s\trefs/heads/%06d\n" % (ID, number) for number in range(20_000))
 LONG = b"a" * 500_000

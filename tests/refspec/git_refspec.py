@@ -464,7 +464,8 @@ def check_manual(program, remote):
 
 
 # What stands for the arguments of a synopsis.
-ARGUMENTS = {"remote": "origin", "spec": "refs/heads/main:refs/x/main", "ref": "origin/main", "name": "origin"}
+ARGUMENTS = {"remote": "origin", "spec": "refs/heads/main:refs/x/main", "ref": "origin/main", "name": "origin",
+             "remote-ref": "main"}
 
 
 def synopses(text):
@@ -499,7 +500,7 @@ def examples(text):
 
 # Words, with the last one to complete, and some of what they are completed to.
 COMPLETIONS = (
-    ("git refspec ", ("check", "plan", "prefixes", "track", "upstream")),
+    ("git refspec ", ("check", "plan", "prefixes", "track", "upstream", "why")),
     ("git refspec pl", ("plan",)),
     ("git refspec plan or", ("origin",)),
     ("git refspec plan --j", ("--json",)),
@@ -509,6 +510,8 @@ COMPLETIONS = (
     ("git refspec track origin/d", ("origin/dev",)),
     ("git refspec track --json refs/remotes/origin/t", ("refs/remotes/origin/topic/a",)),
     ("git refspec upstream ma", ("main",)),
+    ("git refspec why de", ("dev",)),
+    ("git refspec why dev or", ("origin",)),
     ("git refspec plan --remote or", ("origin",)),
     ("git -C ../here refspec prefixes or", ("origin",)),
     ("git -C ../here refspec track origin/d", ("origin/dev",)),

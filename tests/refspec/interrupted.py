@@ -18,7 +18,7 @@ sys.path.insert(0, str(Path(__file__).resolve().parents[1]))
 from helpers import paths, scripted, stop
 
 SIGNALS = (signal.SIGHUP, signal.SIGINT, signal.SIGTERM)
-CALLS = (["plan", "--prune", "origin"], ["check"], ["stale"], ["track", "@{u}", "origin/main"], ["upstream"], ["prefixes"], ["--help"])
+CALLS = (["plan", "--prune", "origin"], ["check"], ["stale"], ["track", "@{u}", "origin/main"], ["upstream"], ["why", "main"], ["prefixes"], ["--help"])
 # How long anything may take, in seconds.
 LONG = 600
 MARK = "GIT_REFSPEC_INTERRUPTED"

@@ -52,6 +52,7 @@ GIT_OPTIONS = {
     "stale": ["-z", "--json", "--remote"],
     "track": ["-z", "--json", "--remote"],
     "upstream": ["-z", "--json"],
+    "why": ["-z", "--json", "--remote"],
     "prefixes": ["-z", "--json", "--patterns", "--remote"],
 }
 FILES = ("--specs", "--refs", "--configured", "--local")
@@ -198,11 +199,12 @@ class GivenGit:
                     self.words.append(random_.choice(["origin", "r"]))
                 if option == "--refmap":
                     self.words.append(as_argument(random_.choice([*call.specs, b""])))
-        has_remote = "--remote" in self.words or command == "track"
+        has_remote = "--remote" in self.words or command in ("track", "why")
         if not has_remote and random_.random() < 0.6:
             self.words.append(as_argument(random_.choice(REMOTES)))
-        if random_.random() < (0.9 if command == "track" else 0.3):
-            some = call.names + [b"main", b"@{u}", b"HEAD", b"origin/main"] if command == "track" else call.some_specs() + [b"tag"]
+        if random_.random() < (0.9 if command in ("track", "why") else 0.3):
+            refs = {"track": [b"main", b"@{u}", b"HEAD", b"origin/main"], "why": [b"main", b"HEAD", b"origin"]}.get(command)
+            some = call.names + refs if refs else call.some_specs() + [b"tag"]
             self.words += [as_argument(random_.choice(some)) for _ in range(random_.randint(1, 3))]
         if random_.random() < 0.02:
             self.words.append(random_.choice(["--help", "--nosuch", "-x", "--version", "-", "--", ""]))

@@ -5,6 +5,7 @@ mod CallLemmas
 mod CheckingLemmas
 mod ChosenLemmas
 mod ConfiguredLemmas
+mod FateLemmas
 mod FetchLemmas
 mod GivenLemmas
 mod NamedLemmas

@@ -3,6 +3,7 @@ pub mod BranchFacts
 pub mod CheckingFacts
 pub mod ChosenFacts
 pub mod ConfiguredFacts
+pub mod FateFacts
 pub mod FetchFacts
 pub mod NamedFacts
 pub mod RefFacts

@@ -1,6 +1,6 @@
 -- The specs by which a client asks a server for refs, as `git fetch` does by protocol v2 (git-fetch(1)), and what
 -- `git refspec prefixes` reports of them.
-use Rattle.std.specs.Prelude.{◌≡◌, ◌≢◌, ◌⊎◌, ℕ, Bool, List, [], ◌∷◌, ◌++◌, codes, cond, map}
+use Rattle.std.specs.Prelude.{◌≡◌, ◌≢◌, ◌⊎◌, ℕ, Bool, true, false, List, [], ◌∷◌, ◌++◌, codes, cond, map}
 use Rattle.gix_refspec.specs.Matching.RefNames.{IsRefName}
 use Rattle.gix_refspec.specs.Specs.Reading.{Reading}
 use Rattle.gix_refspec_text.specs.declared.parsing.Operation.TheVariants as operation
@@ -9,7 +9,8 @@ use Rattle.refspec_io.specs.Texts.{Given, argument_at, given_of, said}
 use Rattle.refspec_commands.specs.declared.prefixes.report.Notation.{Notation}
 use Rattle.refspec_commands.specs.declared.prefixes.report.Notation.TheVariants as notation
 use Rattle.refspec_commands.specs.Prefixes.{AddsPrefixes}
-use Rattle.refspec_fetch.specs.Answer.{takes_all}
+use Rattle.refspec_fetch.specs.declared.question.Tags.{Tags}
+use Rattle.refspec_fetch.specs.declared.question.Tags.TheVariants as tags
 use Rattle.refspec_fetch.specs.Report.{Report}
 use Rattle.refspec_request.specs.declared.arguments.Request.{Request}
 use Rattle.refspec_request.specs.declared.choice.Choice.{Choice}
@@ -51,10 +52,16 @@ AreNamedTexts s texts =
     ⊎ ((s.given.items ≡ []) × AreConfiguredTexts (map given_of s.configured.items)
     (map (λ m. m.now) s.merges.items) texts)
 
+-- tags are asked for, unless they are left: Git follows those of what it fetches
+abbrev pub asks_tags : Tags → Bool
+asks_tags tags.Followed = true
+asks_tags tags.All = true
+asks_tags tags.Left = false
+
 -- and that of all tags, if these are asked for
 abbrev pub AreAskedTexts : Specs → List Given → Type 0
 AreAskedTexts s texts = (named : List Given) × AreNamedTexts s named
-    × (texts ≡ named ++ cond (takes_all s.tags) (unwritten all_tags ∷ []) [])
+    × (texts ≡ named ++ cond (asks_tags s.tags) (unwritten all_tags ∷ []) [])
 
 -- the prefixes for specs were reported
 pub record ReportsPrefixes (n : Notation) (texts : List Given) (old new : Report) : Type 0 where

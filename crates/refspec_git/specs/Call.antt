@@ -28,6 +28,7 @@ use Rattle.refspec_git.specs.Asked.{AnswersPrefixes}
 use Rattle.refspec_git.specs.Branches.{RefusesBranches}
 use Rattle.refspec_git.specs.Checking.{IsChecked, StopsCheck}
 use Rattle.refspec_git.specs.Chosen.{AreUsable, AreValuesOf, NamesNothing, ReportsUnusable}
+use Rattle.refspec_git.specs.Fates.{AnswersFates, RefusesFates}
 use Rattle.refspec_git.specs.Fetch.{AnswersFetch, RefusesFetch}
 use Rattle.refspec_git.specs.Repository.{IsPrinted, IsRepository, LacksOutput}
 use Rattle.refspec_git.specs.Stops.{Passes, StopsFirst}
@@ -90,13 +91,17 @@ RefusesFetching r request e = ¬ (FetchesNothing r request) × (RefusesChoice r 
 abbrev pub AnswersCommand : Repository → Request → Answer → Type 0
 AnswersCommand r request a = ((request.command ≡ command.Track) × AnswersTracking r request a)
     ⊎ ((request.command ≡ command.Upstream) × AnswersUpstream r request a)
-    ⊎ ((request.command ≢ command.Track) × (request.command ≢ command.Upstream) × AnswersFetching r request a)
+    ⊎ ((request.command ≡ command.Why) × AnswersFates r request a)
+    ⊎ ((request.command ≢ command.Track) × (request.command ≢ command.Upstream) × (request.command ≢ command.Why)
+    × AnswersFetching r request a)
 
 -- why it is not
 abbrev pub RefusesCommand : Repository → Request → Refusal → Type 0
 RefusesCommand r request e = ((request.command ≡ command.Track) × StopsTracking r request (stop.Refused e))
     ⊎ ((request.command ≡ command.Upstream) × RefusesBranches r request e)
-    ⊎ ((request.command ≢ command.Track) × (request.command ≢ command.Upstream) × RefusesFetching r request e)
+    ⊎ ((request.command ≡ command.Why) × RefusesFates r request (stop.Refused e))
+    ⊎ ((request.command ≢ command.Track) × (request.command ≢ command.Upstream) × (request.command ≢ command.Why)
+    × RefusesFetching r request e)
 
 -- Git refuses no value of any remote
 abbrev pub HasUsable : Repository → Type 0

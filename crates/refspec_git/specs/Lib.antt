@@ -5,6 +5,7 @@ pub mod Call
 pub mod Checking
 pub mod Chosen
 pub mod Configured
+pub mod Fates
 pub mod Fetch
 pub mod Named
 pub mod Refs

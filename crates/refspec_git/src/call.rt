@@ -10,6 +10,7 @@ ghost use Rattle.refspec_git.specs.Call.{RefusesIn, RefusesUsable, Shows, StopsW
 use crate::answer::{Answer, Machine, Stop, asks, reports};
 use crate::checking::{refused_values, report_check};
 use crate::chosen::names_nothing;
+use crate::fates::report_fates;
 use crate::fetch::{report_fetch, report_prefixes};
 use crate::repository::{branch_of, counted_settings, is_path, line_of, old_remotes, printed_by};
 use crate::stops::bad_setting;
@@ -181,6 +182,7 @@ fn answer_command<'a, M: Machine>(
     match request.command {
         Subcommand::Track => report_tracking(alloc, machine, request, repository),
         Subcommand::Upstream => Ok(report_upstreams(alloc, request, repository)?),
+        Subcommand::Why => report_fates(alloc, machine, request, repository),
         _ => answer_fetching(alloc, machine, request, repository),
     }
 }

@@ -9,6 +9,7 @@ pub mod call;
 mod checking;
 mod chosen;
 mod configured;
+mod fates;
 mod fetch;
 mod given;
 mod named;

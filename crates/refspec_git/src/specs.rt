@@ -8,7 +8,7 @@ ghost use Rattle.refspec_io.specs.Texts.{given_of, said};
 ghost use Rattle.refspec_fetch.specs.Answer.{takes_all};
 ghost use Rattle.refspec_fetch.specs.Report.{report_of};
 ghost use Rattle.refspec_git.specs.Asked.{AreAskedTexts, AreConfiguredTexts, AreMergedOrHead, AreMergedTexts};
-ghost use Rattle.refspec_git.specs.Asked.{AreNamedTexts, unwritten};
+ghost use Rattle.refspec_git.specs.Asked.{AreNamedTexts, asks_tags, unwritten};
 ghost use Rattle.refspec_git.specs.Fetch.{AreAmong, RefusesTexts, given_texts, merged_name, texts_in};
 ghost use Rattle.refspec_git.specs.Wanted.{AreSpecsOf, MapsBy, RefusesGiven, RefusesMapping, all_tags, is_stale};
 ghost use Rattle.refspec_git.specs.Wanted.{refmap_text};
@@ -59,27 +59,39 @@ pub fn texts_of<'a>(alloc: Global, specs: &'a Specs<'a>) -> Result<Vec<Text<'a>>
 }
 
 /// The texts of the specs by which a client asks for refs: the given ones, or without any the configured ones and what
-/// the branch merges, or without these `HEAD`; and all tags, if they are asked for.
+/// the branch merges, or without these `HEAD`; and all tags, unless tags are left.
 pub fn asked_texts<'a>(alloc: Global, specs: &'a Specs<'a>) -> Result<Vec<Text<'a>>, AllocError>
     ensures { IfOk result (λ texts. AreAskedTexts specs.now (map given_of texts.items)) }
 {
     let mut texts = named_texts(alloc, specs)?;
-    add_all_tags(&mut texts, specs.tags)?;
+    add_tags(&mut texts, specs.tags)?;
     Ok(texts)
 }
 
-// Adds the text of all tags, if all are asked for.
-fn add_all_tags(texts: &mut Vec<Text<'_>>, tags: Tags) -> Result<(), AllocError>
+// Adds the text of all tags, unless tags are left: Git asks for all also to follow those of what it fetches.
+fn add_tags(texts: &mut Vec<Text<'_>>, tags: Tags) -> Result<(), AllocError>
     ensures { OnOk result (map given_of texts.new.items
-        ≡ map given_of texts.old.items ++ cond (takes_all tags) (unwritten all_tags ∷ []) []) }
+        ≡ map given_of texts.old.items ++ cond (asks_tags tags) (unwritten all_tags ∷ []) []) }
 {
-    if takes_all(tags) {
+    if asks_tags(tags) {
         return Ok(texts.push(argument(1, Operation::Fetch, ALL_TAGS.as_bytes()))?);
     }
     Ok(())
 }
 
-fn takes_all(tags: Tags) -> bool
+// Whether a client asks for tags.
+fn asks_tags(tags: Tags) -> bool
+    ensures { result ≡ asks_tags tags }
+{
+    match tags {
+        Tags::Followed => true,
+        Tags::All => true,
+        Tags::Left => false,
+    }
+}
+
+/// Whether a fetch takes all tags.
+pub fn takes_all(tags: Tags) -> bool
     ensures { result ≡ takes_all tags }
 {
     matches!(tags, Tags::All)

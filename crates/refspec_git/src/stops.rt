@@ -59,6 +59,7 @@ fn fetches(command: Subcommand) -> bool
         Subcommand::Plan => true,
         Subcommand::Prefixes => true,
         Subcommand::Stale => true,
+        Subcommand::Why => true,
     }
 }
 

@@ -28,7 +28,8 @@ command_named name =
     (cond (bytes_eq name (codes "track")) (Some command.Track)
     (cond (bytes_eq name (codes "prefixes")) (Some command.Prefixes)
     (cond (bytes_eq name (codes "stale")) (Some command.Stale)
-    (cond (bytes_eq name (codes "upstream")) (Some command.Upstream) None)))))
+    (cond (bytes_eq name (codes "upstream")) (Some command.Upstream)
+    (cond (bytes_eq name (codes "why")) (Some command.Why) None))))))
 
 -- the name of a command
 abbrev pub name_of : Subcommand → List ℕ
@@ -38,6 +39,7 @@ name_of command.Track = codes "track"
 name_of command.Prefixes = codes "prefixes"
 name_of command.Stale = codes "stale"
 name_of command.Upstream = codes "upstream"
+name_of command.Why = codes "why"
 
 -- the options without a value, by their long names
 abbrev pub switch_named : List ℕ → Option Switch

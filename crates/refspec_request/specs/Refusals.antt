@@ -120,6 +120,8 @@ sentence_of (refusal.NoBranchAtHead argument) = about [] argument.now (codes " d
 sentence_of refusal.RemoteOfBranches = words
     (codes "upstream takes branches and no --remote, as each branch has a remote of its own") ∷ []
 sentence_of (refusal.NoValuesOf remote) = about [] remote.now (codes " has no fetch values")
+sentence_of refusal.ArgumentsOfWhy = words
+    (codes "why takes a ref of the remote, and perhaps the remote: git refspec why REF [REMOTE]") ∷ []
 sentence_of refusal.OtherRefused = words
     (codes "a value of another remote is refused, so Git uses none; `git refspec check` shows which") ∷ []
 sentence_of refusal.Memory = words (codes "out of memory") ∷ []
@@ -131,7 +133,8 @@ synopses = codes "usage: git refspec check [-v] [--push] [--strict] [--no-warnin
     ++ (codes "   or: git refspec stale [<remote>] [<spec>...]\n"
     ++ (codes "   or: git refspec track <ref>...\n"
     ++ (codes "   or: git refspec upstream [<branch>...]\n"
-    ++ codes "   or: git refspec prefixes [--patterns] [<remote>] [<spec>...]\n"))))
+    ++ (codes "   or: git refspec why <ref> [<remote>]\n"
+    ++ codes "   or: git refspec prefixes [--patterns] [<remote>] [<spec>...]\n")))))
 
 abbrev pub advice_of : Refusal → List Piece
 advice_of refusal.NoCommand = words synopses ∷ []

@@ -37,6 +37,8 @@ pub enum Subcommand {
     Stale,
     /// Reports the upstreams of branches.
     Upstream,
+    /// Reports what each spec of a fetch does with one ref of the remote.
+    Why,
 }
 
 impl Subcommand {
@@ -51,6 +53,7 @@ impl Subcommand {
             Subcommand::Prefixes => "prefixes",
             Subcommand::Stale => "stale",
             Subcommand::Upstream => "upstream",
+            Subcommand::Why => "why",
         }
     }
 }
@@ -225,6 +228,8 @@ fn command_named(name: &[u8]) -> Option<Subcommand>
         Some(Subcommand::Stale)
     } else if name == b"upstream".as_slice() {
         Some(Subcommand::Upstream)
+    } else if name == b"why".as_slice() {
+        Some(Subcommand::Why)
     } else {
         None
     }

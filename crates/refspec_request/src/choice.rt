@@ -266,8 +266,9 @@ fn named_in<'a, 'r>(
     }
 }
 
-// The remote to fetch from: the named one, or the default.
-fn remote_to_fetch<'a>(
+/// The remote to fetch from: the named one, or the default. Refuses a call without a remote, a group of remotes, and a
+/// remote with a newline.
+pub fn remote_to_fetch<'a>(
     named: Option<&'a [u8]>,
     repository: &Repository<'a, 'a>,
 ) -> Result<&'a [u8], Refusal<'a>>

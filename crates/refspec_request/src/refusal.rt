@@ -35,6 +35,9 @@ const NO_MERGED_REF: &str = "no branch has a merge value, so none has an upstrea
 const REMOTE_OF_BRANCHES: &str =
     "upstream takes branches and no --remote, as each branch has a remote of its own";
 
+const ARGUMENTS_OF_WHY: &str =
+    "why takes a ref of the remote, and perhaps the remote: git refspec why REF [REMOTE]";
+
 const OTHER_REFUSED: &str =
     "a value of another remote is refused, so Git uses none; `git refspec check` shows which";
 
@@ -106,6 +109,8 @@ pub enum Refusal<'a> {
     NoBranchAtHead(&'a [u8]),
     /// `--remote` in a call that takes the remotes of branches.
     RemoteOfBranches,
+    /// `why` has no ref, or more than a ref and a remote.
+    ArgumentsOfWhy,
     /// A value of a remote that the arguments don't name is refused.
     OtherRefused,
     /// Memory ran out.
@@ -198,6 +203,7 @@ impl Refusal<'_> {
                 write_about(out, "", argument, " does not point to a branch")
             }
             Refusal::RemoteOfBranches => write_words(out, REMOTE_OF_BRANCHES),
+            Refusal::ArgumentsOfWhy => write_words(out, ARGUMENTS_OF_WHY),
             Refusal::OtherRefused => write_words(out, OTHER_REFUSED),
             Refusal::Memory => write_words(out, "out of memory"),
         }

@@ -7,6 +7,7 @@ pub const USAGE: &str =
    or: git refspec stale [<remote>] [<spec>...]
    or: git refspec track <ref>...
    or: git refspec upstream [<branch>...]
+   or: git refspec why <ref> [<remote>]
    or: git refspec prefixes [--patterns] [<remote>] [<spec>...]
 ";
 
@@ -17,6 +18,7 @@ pub const OPTIONS: &str = "
     stale                 list the refs here that git fetch --prune would delete
     track                 show which refs of which remotes tracking refs come from
     upstream              show which tracking refs are the upstreams of branches
+    why                   show why git fetch takes a ref of the remote, or doesn't
     prefixes              list the ref prefixes to ask the server for
 
     -z                    end each field with a zero byte

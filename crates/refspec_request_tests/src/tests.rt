@@ -589,7 +589,7 @@ fn refuses_calls_without_a_remote(rt: HostRuntime) -> Result<(), Fail> {
 
 // As git-refspec(1) has them under DIAGNOSTICS.
 #[test]
-fn writes_the_messages_on_branches(rt: HostRuntime) -> Result<(), Fail> {
+fn writes_the_messages_on_branches_and_refs(rt: HostRuntime) -> Result<(), Fail> {
     let refusals = [
         (
             Refusal::NoMergedRef,
@@ -602,6 +602,10 @@ fn writes_the_messages_on_branches(rt: HostRuntime) -> Result<(), Fail> {
         (
             Refusal::RemoteOfBranches,
             "git refspec: upstream takes branches and no --remote, as each branch has a remote of its own\n",
+        ),
+        (
+            Refusal::ArgumentsOfWhy,
+            "git refspec: why takes a ref of the remote, and perhaps the remote: git refspec why REF [REMOTE]\n",
         ),
     ];
     for (refusal, wanted) in &refusals {
@@ -655,7 +659,7 @@ fn writes_the_messages_of_refusals(rt: HostRuntime) -> Result<(), Fail> {
         ),
         (
             Refusal::NoSuchOption(b"--x"),
-            "git refspec: there is no option --x\nusage: git refspec check [-v] [--push] [--strict] [--no-warnings] [<remote> | <spec>]...\n   or: git refspec plan [--long] [--all] [--prune] [--refmap <spec>]... [<remote>] [<spec>...]\n   or: git refspec stale [<remote>] [<spec>...]\n   or: git refspec track <ref>...\n   or: git refspec upstream [<branch>...]\n   or: git refspec prefixes [--patterns] [<remote>] [<spec>...]\n",
+            "git refspec: there is no option --x\nusage: git refspec check [-v] [--push] [--strict] [--no-warnings] [<remote> | <spec>]...\n   or: git refspec plan [--long] [--all] [--prune] [--refmap <spec>]... [<remote>] [<spec>...]\n   or: git refspec stale [<remote>] [<spec>...]\n   or: git refspec track <ref>...\n   or: git refspec upstream [<branch>...]\n   or: git refspec why <ref> [<remote>]\n   or: git refspec prefixes [--patterns] [<remote>] [<spec>...]\n",
         ),
     ];
     for (refusal, wanted) in &refusals {
