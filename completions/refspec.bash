@@ -6,6 +6,9 @@ _refspec() {
         mapfile -t COMPREPLY < <(compgen -W "check explain canon plan stale track prefixes upstream prefetch rename why --help --version" -- "$word")
         return
     fi
+    case ${COMP_WORDS[1]}$before in
+    why--local) before=--ref ;;
+    esac
     case $before in
     --specs | --refs | --configured | --local)
         mapfile -t COMPREPLY < <(compgen -f -- "$word")
@@ -25,7 +28,7 @@ _refspec() {
     track) options="$options --ref" ;;
     prefixes) options="$options --patterns" ;;
     upstream) options="$options --merge" ;;
-    why) options="$options --ref --refs" ;;
+    why) options="$options --ref --local --refs" ;;
     esac
     mapfile -t COMPREPLY < <(compgen -W "$options" -- "$word")
 }

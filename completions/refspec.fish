@@ -13,7 +13,7 @@ complete -c refspec -n __fish_use_subcommand -a prefixes -d 'Lists the ref prefi
 complete -c refspec -n __fish_use_subcommand -a upstream -d 'Shows the tracking ref that Git takes for the upstream of a branch'
 complete -c refspec -n __fish_use_subcommand -a prefetch -d 'Prints what `git fetch --prefetch` applies in place of each refspec'
 complete -c refspec -n __fish_use_subcommand -a rename -d 'Prints what `git remote rename` makes of each fetch value of a remote'
-complete -c refspec -n __fish_use_subcommand -a why -d 'Shows what each refspec of a fetch does with one ref of the remote'
+complete -c refspec -n __fish_use_subcommand -a why -d 'Shows what each refspec of a fetch does with one ref of the remote, or with a local one'
 
 complete -c refspec -n '__fish_seen_subcommand_from check' -l specs -r -F -d 'Reads specs from this file too, or from the standard input for `-`'
 complete -c refspec -n '__fish_seen_subcommand_from check' -s z -d 'Reads and writes raw records that end with a zero byte; messages quote names'
@@ -98,6 +98,7 @@ complete -c refspec -n '__fish_seen_subcommand_from why' -l specs -r -F -d 'Read
 complete -c refspec -n '__fish_seen_subcommand_from why' -s z -d 'Reads and writes raw records that end with a zero byte; messages quote names'
 complete -c refspec -n '__fish_seen_subcommand_from why' -l read-z -d 'Reads records that end with a zero byte, and writes lines'
 complete -c refspec -n '__fish_seen_subcommand_from why' -l json -d 'Writes one JSON object a line, refusals too'
-complete -c refspec -n '__fish_seen_subcommand_from why' -l ref -x -a "(git for-each-ref --format='%(refname)' refs/remotes 2>/dev/null)" -d 'The full name of the ref, such as refs/heads/main'
+complete -c refspec -n '__fish_seen_subcommand_from why' -l ref -x -a "(git for-each-ref --format='%(refname)' refs/remotes 2>/dev/null)" -d 'The full name of a ref of the remote, such as refs/heads/main'
+complete -c refspec -n '__fish_seen_subcommand_from why' -l local -x -a "(git for-each-ref --format='%(refname)' refs/remotes 2>/dev/null)" -d 'The full name of a local ref instead, such as refs/remotes/origin/main'
 complete -c refspec -n '__fish_seen_subcommand_from why' -l refs -r -F -d 'Reads the refs of the remote from this file, or from the standard input for `-`'
 complete -c refspec -n '__fish_seen_subcommand_from why' -s h -l help -d 'Print help'

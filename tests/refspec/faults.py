@@ -57,6 +57,8 @@ COMMANDS = [
     Case(["why", "--ref", "refs/heads/a", "--refs", "-", "refs/heads/*:refs/x/*", "refs/tags/*:refs/x/*", "b", "^refs/heads/b*"], {}, REFS),
     Case(["why", "--json", "--ref", "refs/heads/a", "refs/heads/b*:refs/x/*", "^refs/heads/a"]),
     Case(["why", "--ref", "refs/heads/aa", "--refs", "refs", "main"], {"refs": REFS}),
+    Case(["why", "--local", "refs/x/a", "--refs", "-", "refs/heads/*:refs/x/*", "refs/tags/*:refs/x/*", "a:refs/x/a", "^refs/heads/b*"], {}, REFS),
+    Case(["why", "--json", "--local", "refs/x/a", "--refs", "refs", "refs/nosuch/*:refs/x/*", "1" * 40 + ":refs/x/a"], {"refs": REFS}),
     Case(["plan", "--help"]),
     Case(["plan", "--no"]),
 ]

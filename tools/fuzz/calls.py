@@ -44,7 +44,7 @@ OPTIONS = {
     "upstream": ["--json", "-z", "--read-z", "--merge", "--specs"],
     "prefetch": ["--json", "-z", "--read-z", "--specs"],
     "rename": ["--json", "-z", "--read-z", "--specs"],
-    "why": ["--json", "-z", "--read-z", "--ref", "--refs", "--specs"],
+    "why": ["--json", "-z", "--read-z", "--ref", "--local", "--refs", "--specs"],
 }
 GIT_OPTIONS = {
     "check": ["-v", "-z", "--json", "--push", "--strict", "--no-warnings", "--remote"],
@@ -154,8 +154,10 @@ class Given:
         arguments = [as_argument(text) for text in call.some_specs()] if random_.random() < 0.6 else []
         if command == "rename" and random_.random() < 0.95:
             arguments[:0] = [as_argument(random_.choice(REMOTES)) for _ in range(2)]
+        if command == "why" and {"--ref", "--local"} <= set(chosen) and random_.random() < 0.95:
+            chosen.remove(random_.choice(["--ref", "--local"]))
         for option in chosen:
-            self.words += [option, *self.value(option, call)]
+            self.words += [option, *self.value(option, call, command)]
         for word in arguments:
             self.words.insert(random_.randint(0, len(self.words)) if random_.random() < 0.2 else len(self.words), word)
         self.words.insert(0, command)
@@ -165,14 +167,14 @@ class Given:
         self.is_json = "--json" in self.words
         self.is_unread = random_.random() < 0.01
 
-    def value(self, option, call):
-        if option in FILES:
+    def value(self, option, call, command):
+        if option in FILES and (command, option) != ("why", "--local"):
             if self.random.random() < 0.05:
                 return [self.random.choice(["-", "/nosuch", "/", ""])]
             name = option.lstrip("-")
             self.files[name] = self.contents(option, call)
             return [name]
-        if option in ("--ref", "--merge"):
+        if option in ("--ref", "--merge", "--local"):
             return [as_argument(self.random.choice([*call.names, b"refs/heads/main", b"HEAD", b"main"]))]
         return []
 

@@ -26,7 +26,7 @@ mod exclusion;
 mod fates;
 pub mod laws;
 mod rivals;
-mod sources;
+pub mod sources;
 
 use bstr::{BStr, BString};
 use fates::fates_of;

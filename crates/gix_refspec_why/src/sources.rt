@@ -33,8 +33,8 @@ pub(crate) fn source_mismatch(spec: &RefSpecRef<'_>, name: &[u8]) -> Mismatch
     }
 }
 
-// Why a pattern with these texts before and after its star doesn't match a name.
-pub(crate) fn pattern_mismatch(before: &[u8], after: &[u8], name: &[u8]) -> Mismatch
+/// Why a pattern with these texts before and after its star doesn't match a name.
+pub fn pattern_mismatch(before: &[u8], after: &[u8], name: &[u8]) -> Mismatch
     requires { (word : List ℕ) → ¬ (Fits before.now after.now name.now word) }
     ensures { IsPatternMismatch before.now after.now name.now result }
 {

@@ -322,7 +322,7 @@ fn why_line<'a>(alloc: Global) -> Result<clap::Command<'a>, AllocError> {
     line_of(
         alloc,
         "why",
-        "Shows what each refspec of a fetch does with one ref of the remote",
+        "Shows what each refspec of a fetch does with one ref of the remote, or with a local one",
         "A refspec",
     )?
     .arg(
@@ -331,8 +331,17 @@ fn why_line<'a>(alloc: Global) -> Result<clap::Command<'a>, AllocError> {
             .value_name("NAME")
             .num_args(1)
             .action(ArgAction::Set)
-            .required(true)
-            .help("The full name of the ref, such as refs/heads/main"),
+            .required_unless_present("local-ref")?
+            .help("The full name of a ref of the remote, such as refs/heads/main"),
+    )?
+    .arg(
+        Arg::new(alloc, "local-ref")
+            .long("local")
+            .value_name("NAME")
+            .num_args(1)
+            .action(ArgAction::Set)
+            .conflicts_with("ref")?
+            .help("The full name of a local ref instead, such as refs/remotes/origin/main"),
     )?
     .arg(
         Arg::new(alloc, "refs")
@@ -389,7 +398,10 @@ pub fn call_of<'a>(
         input,
         beside,
         configured: or_else(matches.get_str("configured"), ""),
-        local: or_else(matches.get_str("local"), ""),
+        local: or_else(
+            matches.get_str("local"),
+            or_else(matches.get_str("local-ref"), ""),
+        ),
     })
 }
 

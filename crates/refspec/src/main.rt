@@ -149,7 +149,7 @@ fn run_call(rt: &HostRuntime, call: &Call<'_>) -> u8 {
 fn run_with_files<'a>(rt: &HostRuntime, call: &Call<'a>) -> Result<u8, (Fault, &'a str)> {
     let specs = bytes_of(rt, call.beside)?;
     let configured = bytes_of(rt, call.configured)?;
-    let local = bytes_of(rt, call.local)?;
+    let local = bytes_of(rt, local_file(call))?;
     let files = Files {
         specs: specs.as_slice(),
         configured: configured.as_slice(),
@@ -194,10 +194,18 @@ fn has_no_specs(call: &Call<'_>) -> bool {
 // How many of the files of a call are the standard input.
 fn counts_inputs(call: &Call<'_>) -> usize {
     let input = if call.reads_input { call.input } else { "" };
-    [input, call.beside, call.configured, call.local]
+    [input, call.beside, call.configured, local_file(call)]
         .iter()
         .filter(|name| **name == "-")
         .count()
+}
+
+// The name of the file of local refs that a call reads; empty if it reads none.
+fn local_file<'a>(call: &Call<'a>) -> &'a str {
+    match call.command {
+        Command::Why => "",
+        _ => call.local,
+    }
 }
 
 // The bytes of a file, or of the standard input for `-`; nothing for an empty name. Fails with the name.

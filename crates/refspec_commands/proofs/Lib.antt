@@ -1,6 +1,7 @@
 mod facts
 pub mod EachLemmas
 pub mod FateLemmas
+pub mod LocalLemmas
 pub mod RemoteLemmas
 pub mod UpstreamLemmas
 pub mod CanonLemmas

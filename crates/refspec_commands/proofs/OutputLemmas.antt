@@ -1,5 +1,6 @@
 -- The report on the texts of a call is its output.
 use Rattle.std.proofs.Common.{◌≡◌, ◌≢◌, ◌⊎◌, ℕ, Bool, true, false, MatchBool, ◌||◌, ◌&&◌, List, [], ◌∷◌, Option, arith}
+use Rattle.std.specs.Borrow.{Bor}
 use Rattle.std.proofs.Common.{inl, inr, length, ltb, map, refl, sym, ap, subst, ◌∙◌}
 use Rattle.std.specs.List.{AllZip}
 use Rattle.bstr.specs.BStr.{bstr_bytes}
@@ -31,6 +32,7 @@ use Rattle.refspec_commands.specs.declared.checking.Question.{Question}
 use Rattle.refspec_commands.specs.declared.warnings.Warning.{Warning}
 use Rattle.refspec_commands.specs.Canon.{AddsCanonical}
 use Rattle.refspec_commands.specs.Fates.{AddsFates}
+use Rattle.refspec_commands.specs.Locals.{AddsAsked, AddsRoles, AddsWhy}
 use Rattle.refspec_commands.specs.Output.{AddsFound, HasValues, IsEmpty, IsOutput, IsTask, ReportsChecked, Shows}
 use Rattle.refspec_commands.specs.Output.{notation_of}
 use Rattle.refspec_commands.specs.Warned.{AddsSaid, nothing_asked}
@@ -318,12 +320,35 @@ AddsFates-form task g refused old new (inl (is, bad)) = inl (
 )
 AddsFates-form task g refused old new (inr explained) = inr explained
 
+AddsRoles-form : (task : Task) (g : List Reading) (refused : Bool) (old new : FetchReport)
+    → AddsRoles task g refused old
+    new → AddsRoles task g refused old (record { form = old.form; results = new.results; messages = new.messages })
+AddsRoles-form task g refused old new (inl (is, bad)) = inl (
+  is,
+  record {
+    refs = bad.refs;
+    bad = bad.bad;
+    listed = bad.listed;
+    some = bad.some;
+    malformed = bad.malformed;
+    form = refl;
+  },
+)
+AddsRoles-form task g refused old new (inr explained) = inr explained
+
+AddsAsked-form : (names : List (Bor (List ℕ))) (task : Task) (g : List Reading) (refused : Bool) (old new : FetchReport)
+    → AddsAsked names task g refused old new
+    → AddsAsked names task g refused old (record { form = old.form; results = new.results; messages = new.messages })
+AddsAsked-form [] task g refused old new reported = AddsRoles-form task g refused old new reported
+AddsAsked-form (n ∷ names) task g refused old new reported = AddsFates-form task g refused old new reported
+
 pub AddsFound-why : (k : Command) (task : Task) (old new : Report) (refused : Bool) (g : List Reading)
-    → k ≡ command.Why → AddsFates task g refused (report_of old) (report_of new)
+    → k ≡ command.Why → AddsWhy task g refused (report_of old) (report_of new)
     → AddsFound k task old.form old.messages.items new.messages.items refused g old.results.items new.results.items
 AddsFound-why k task old new refused g is reported =
     subst (λ (x : Command). AddsFound x task old.form old.messages.items new.messages.items refused g old.results.items
-    new.results.items) (sym is) (AddsFates-form task g refused (report_of old) (report_of new) reported)
+    new.results.items) (sym is)
+    (AddsAsked-form task.call.now.refs.items task g refused (report_of old) (report_of new) reported)
 
 -- what `rename` reports
 pub Shows-rename : (k : Command) (task : Task) (texts : List Given) (old new : Report) (left : Bool)

@@ -2,6 +2,7 @@
 pub mod AskedFacts
 pub mod CanonFacts
 pub mod FateFacts
+pub mod LocalFacts
 pub mod OutputFacts
 pub mod PrefixFacts
 pub mod RemoteFacts

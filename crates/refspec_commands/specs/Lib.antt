@@ -3,6 +3,8 @@ pub mod Canon
 pub mod Each
 pub mod Fates
 pub mod FateViews
+pub mod Locals
+pub mod LocalViews
 pub mod Output
 pub mod Prefetches
 pub mod Prefixes

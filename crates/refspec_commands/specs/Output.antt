@@ -25,7 +25,7 @@ use Rattle.refspec_fetch.specs.Fetch.{AddsFetch}
 use Rattle.refspec_commands.specs.Canon.{AddsCanonical, ShowsCanonical}
 use Rattle.refspec_commands.specs.declared.prefixes.report.Notation.{Notation}
 use Rattle.refspec_commands.specs.declared.prefixes.report.Notation.TheVariants as notation
-use Rattle.refspec_commands.specs.Fates.{AddsFates}
+use Rattle.refspec_commands.specs.Locals.{AddsWhy}
 use Rattle.refspec_commands.specs.Prefetches.{AddsPrefetches}
 use Rattle.refspec_commands.specs.Prefixes.{AddsPrefixes}
 use Rattle.refspec_commands.specs.Renames.{AddsRenamed}
@@ -56,7 +56,7 @@ AddsFound command.Upstream task form before after refused g old new =
 AddsFound command.Prefetch task form before after refused g old new =
     (refused ≡ false) × AddsPrefetches form g old new
 AddsFound command.Why task form before after refused g old new =
-    AddsFates task g refused (record { form = form; results = old; messages = before })
+    AddsWhy task g refused (record { form = form; results = old; messages = before })
     (record { form = form; results = new; messages = after })
 AddsFound _ task form before after refused g old new = ⊤
 

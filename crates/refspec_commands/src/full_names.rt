@@ -37,7 +37,7 @@ fn completed(alloc: Global, name: &[u8]) -> Result<BString, AllocError> {
 }
 
 // Whether a name begins with that of a folder of `refs/` in which Git looks for refs.
-fn is_below_folder(name: &[u8]) -> bool {
+pub(crate) fn is_below_folder(name: &[u8]) -> bool {
     name.starts_with(b"heads/") || name.starts_with(b"tags/") || name.starts_with(b"remotes/")
 }
 

@@ -11,7 +11,7 @@ ghost use Rattle.refspec_commands.specs.Run.{Leaves, ReadsWhole};
 ghost use Rattle.refspec_commands.specs.Warnings.{ShowsCheck};
 
 use crate::checking::{self, Question};
-use crate::fates::report_fates;
+use crate::fates::report_why;
 use crate::prefetches::report_prefetches;
 use crate::prefixes::answer::answer_to;
 use crate::prefixes::report::{Notation, report_answer};
@@ -224,7 +224,7 @@ fn report_found(
             report_upstreams(alloc, call.merges.as_slice(), specs.as_slice(), report)
         }
         Command::Prefetch => report_prefetches(alloc, specs.as_slice(), report),
-        Command::Why => report_fates(alloc, task, specs.as_slice(), report),
+        Command::Why => report_why(alloc, task, specs.as_slice(), report),
         _ => {
             let answer = answer_to(alloc, specs.as_slice())?;
             report_answer(alloc, notation_of(call), &answer, report)?;

@@ -106,7 +106,8 @@ pub struct Call<'a> {
     pub beside: &'a str,
     /// The name in messages of the file of configured specs.
     pub configured: &'a str,
-    /// The name in messages of the file of local refs.
+    /// The name in messages of the file of local refs; for `why` that names no ref of the remote, the local ref that it is
+    /// asked about.
     pub local: &'a str,
 }
 

@@ -5,6 +5,7 @@ use crate::fates::question::{Holder, Known, Question};
 use crate::fates::stops::{Contest, Stop};
 use crate::fates::ways::{write_addition, write_exchange, write_list, write_removal};
 use crate::full_names::{full_name, write_argument};
+use bstr::BString;
 use gix_refspec::match_group::ref_names::is_ref_name;
 use gix_refspec_text::side::strip_refs;
 use gix_refspec_why::{Effect, Fate};
@@ -37,7 +38,7 @@ pub(crate) fn advice_on(
     if let Some(stop) = stop_of_stored(answer) {
         return Ok(Lack {
             message: stop_message(stop),
-            advice: stop_advice(alloc, holder, answer, stop)?,
+            advice: stop_advice(alloc, holder, answer.texts.as_slice(), stop)?,
         });
     }
     match first_obstacle(answer) {
@@ -79,7 +80,7 @@ fn stop_of_stored(answer: &Answer) -> Option<&Stop> {
 }
 
 // That something stops a fetch.
-fn stop_message(stop: &Stop) -> &'static str {
+pub(crate) fn stop_message(stop: &Stop) -> &'static str {
     match stop {
         Stop::Missing(_) => "Git fetches nothing, as the remote lacks the source of a spec.",
         Stop::Conflict(_) => "Git fetches nothing, as two refs have one destination.",
@@ -88,17 +89,16 @@ fn stop_message(stop: &Stop) -> &'static str {
 }
 
 // What to do about what stops a fetch.
-fn stop_advice(
+pub(crate) fn stop_advice(
     alloc: Global,
     holder: Holder<'_>,
-    answer: &Answer,
+    texts: &[BString],
     stop: &Stop,
 ) -> Result<Vec<u8>, AllocError> {
     let mut advice = Vec::new(alloc);
     match stop {
         Stop::Missing(index) => {
-            let text = text_at(answer.texts.as_slice(), *index);
-            write_removal(holder, text, &mut advice)?;
+            write_removal(holder, text_at(texts, *index), &mut advice)?;
             advice.push(b'.')?;
         }
         Stop::Conflict(contest) => write_contest(contest, &mut advice)?,
@@ -162,7 +162,11 @@ fn fault_of(effect: &Effect) -> Fault {
 }
 
 // That a negative spec is to be left out.
-fn removal(alloc: Global, holder: Holder<'_>, text: &[u8]) -> Result<Vec<u8>, AllocError> {
+pub(crate) fn removal(
+    alloc: Global,
+    holder: Holder<'_>,
+    text: &[u8],
+) -> Result<Vec<u8>, AllocError> {
     let mut advice = Vec::new(alloc);
     write_removal(holder, text, &mut advice)?;
     advice.extend_from_slice(b", or let it exclude less.")?;

@@ -9,7 +9,7 @@ ghost use Rattle.refspec_commands.specs.Each.{AddsEach, AddsOne};
 ghost use Rattle.refspec_commands.specs.Fates.{AddsAnswer, IsVerdict, fate_word, mismatch_word, verdicts_from};
 ghost use Rattle.refspec_commands.specs.FateViews.{verdict_of};
 
-use crate::fates::advice::advice_on;
+use crate::fates::advice::{Lack, advice_on};
 use crate::fates::answer::Answer;
 use crate::fates::question::{Holder, Question};
 use crate::fates::sentences::{Names, sentence_on};
@@ -76,7 +76,7 @@ struct Verdict<'r> {
 }
 
 // Measures the column of the specs; it is empty in another form.
-fn layout_of(
+pub(crate) fn layout_of(
     alloc: Global,
     form: Form,
     names: &Names<'_, '_, '_, '_>,
@@ -192,7 +192,7 @@ fn destination_in(effect: &Effect) -> Option<&[u8]>
 }
 
 // What becomes of the ref, in a word.
-fn word_of(fate: Fate) -> &'static str
+pub(crate) fn word_of(fate: Fate) -> &'static str
     ensures { result.now ≡ fate_word fate }
 {
     match fate {
@@ -209,7 +209,7 @@ fn word_of(fate: Fate) -> &'static str
 }
 
 // Why a source doesn't match, in a word.
-fn mismatch_word_of(mismatch: Mismatch) -> &'static str
+pub(crate) fn mismatch_word_of(mismatch: Mismatch) -> &'static str
     ensures { result.now ≡ mismatch_word mismatch }
 {
     match mismatch {
@@ -235,9 +235,21 @@ fn report_lack(
     ensures { OnOk result (KeepsReport report.old report.new) }
 {
     let lack = advice_on(alloc, question, holder, answer)?;
+    write_lack(alloc, question.name, &lack, report)
+}
+
+// Reports that the ref of this name isn't fetched, and what to do.
+pub(crate) fn write_lack(
+    alloc: Global,
+    name: &[u8],
+    lack: &Lack,
+    report: &mut Report,
+) -> Result<(), AllocError>
+    ensures { OnOk result (KeepsReport report.old report.new) }
+{
     match report.form {
         Form::Json => {
-            let name = json::text_of(alloc, question.name)?;
+            let name = json::text_of(alloc, name)?;
             let advice = json::text_of(alloc, lack.advice.as_slice())?;
             let object = refspec_json::NotFetched {
                 name: name.as_str(),
@@ -248,7 +260,7 @@ fn report_lack(
         }
         Form::Lines | Form::Zeros => {
             let out = &mut report.messages;
-            write_in_message(out, question.name)?;
+            write_in_message(out, name)?;
             out.extend_from_slice(b": ")?;
             out.extend_from_slice(lack.message.as_bytes())?;
             out.extend_from_slice(b"\n    ")?;

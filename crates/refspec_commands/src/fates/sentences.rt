@@ -1,6 +1,7 @@
 //! Sentences on what a spec does with a ref.
 
 use crate::fates::question::Question;
+use crate::fates::roles::{Role, Source};
 use bstr::BString;
 use gix_refspec_why::{Effect, ExcludedBy, Fate, Mismatch, Rival, StarWord};
 use refspec_io::canonical::text_at;
@@ -66,6 +67,61 @@ pub(crate) fn sentence_on(
         Fate::Written => write_two(b"stored in ", destination, &mut out)?,
     }
     Ok(out)
+}
+
+// What a spec with this role has to do with a local ref, in the same way.
+pub(crate) fn role_sentence(
+    alloc: Global,
+    names: &Names<'_, '_, '_, '_>,
+    sources: &[Source],
+    index: usize,
+    role: Role,
+) -> Result<Vec<u8>, AllocError> {
+    let mut out = Vec::new(alloc);
+    match role {
+        Role::NoDestination => out.extend_from_slice(b"has no destination")?,
+        Role::Unmatched(mismatch) => write_mismatch(names, mismatch, &mut out)?,
+        Role::Object => out.extend_from_slice(b"from an object")?,
+        Role::Missing(at) => {
+            if let Some(source) = sources.get(at) {
+                write_two(b"from ", source.name.as_bytes(), &mut out)?;
+                out.extend_from_slice(b", which the remote lacks")?;
+            }
+        }
+        Role::Mapped(mapped) => {
+            if let Some(source) = sources.get(mapped.source) {
+                write_source(alloc, names, source, index, &mut out)?;
+            }
+        }
+    }
+    Ok(out)
+}
+
+// Appends from which source the spec at an index maps to the ref, and what becomes of that.
+fn write_source(
+    alloc: Global,
+    names: &Names<'_, '_, '_, '_>,
+    source: &Source,
+    index: usize,
+    out: &mut Vec<u8>,
+) -> Result<(), AllocError> {
+    write_two(b"from ", source.name.as_bytes(), out)?;
+    let Some(effect) = source.effects.of_specs.get(index) else {
+        return Ok(());
+    };
+    let question = Question {
+        name: source.name.as_bytes(),
+        specs: names.question.specs,
+        refs: names.question.refs,
+        known: names.question.known,
+    };
+    let of_source = Names {
+        question: &question,
+        texts: names.texts,
+    };
+    let sentence = sentence_on(alloc, &of_source, effect)?;
+    out.extend_from_slice(b": ")?;
+    out.extend_from_slice(sentence.as_slice())
 }
 
 // Appends words, and a name.

@@ -8,7 +8,7 @@ use Rattle.refspec_io.proofs.ShownLemmas.{if_ok}
 use Rattle.refspec_fetch.specs.Fetch.{AddsFetch}
 use Rattle.refspec_fetch.specs.Report.{report_of}
 use Rattle.refspec_commands.specs.declared.prefixes.report.Notation.{Notation}
-use Rattle.refspec_commands.specs.Fates.{AddsFates}
+use Rattle.refspec_commands.specs.Locals.{AddsWhy}
 use Rattle.refspec_commands.specs.Prefetches.{AddsPrefetches}
 use Rattle.refspec_commands.specs.Prefixes.{AddsAnswer, IsAnswer}
 use Rattle.refspec_commands.specs.Upstreams.{AddsUpstreams}
@@ -50,11 +50,11 @@ returns-in-Prefetch c = if_ok c.report_prefetches.result _ _ c.report_prefetches
     ))
 
 pub returns-in-Why : goal.returns-in-Why
-returns-in-Why c = if_ok c.report_fates.result _ _ c.report_fates.ensures
+returns-in-Why c = if_ok c.report_why.result _ _ c.report_why.ensures
     (λ refused fates. AddsFound-why c.args.task.now.call.now.command c.args.task.now c.args.report.now
-    c.report_fates.new.report refused _ c.in-Why.is
-    (subst (λ (l : List RefSpecRef). AddsFates c.args.task.now (map reading_of l) refused (report_of c.args.report.now)
-    (report_of c.report_fates.new.report)) c.as_slice-in-Why.ensures.value fates))
+    c.report_why.new.report refused _ c.in-Why.is
+    (subst (λ (l : List RefSpecRef). AddsWhy c.args.task.now (map reading_of l) refused (report_of c.args.report.now)
+    (report_of c.report_why.new.report)) c.as_slice-in-Why.ensures.value fates))
 
 pub returns-in_ok-report_answer-in_default : goal.returns-in_ok-report_answer-in_default
 returns-in_ok-report_answer-in_default c =
