@@ -1,7 +1,7 @@
 -- What `git refspec why` asks about a ref of a remote, given what Git printed, and what it reports. By git-fetch(1) on
 -- the specs of a fetch, and gitrevisions(7) on partial names; the rest is this project's own rule.
 use Rattle.std.specs.Prelude.{◌≡◌, ◌≢◌, ◌⊎◌, ℕ, List, [], ◌∷◌, ◌++◌, Option, None, Some, cond, drop, length, map, take}
-use Rattle.std.specs.Prelude.{option_map, ⊤}
+use Rattle.std.specs.Prelude.{codes, option_map, ⊤}
 use Rattle.std.specs.Borrow.{Bor}
 use Rattle.std.specs.List.{All, Any}
 use Rattle.gix_refspec.specs.Matching.Match.{Ref}
@@ -18,6 +18,7 @@ use Rattle.gix_refspec_plan.specs.Matching.Plan.{IsPlan, Wish}
 use Rattle.gix_refspec_plan.specs.Views.Plan.{planned_of}
 use Rattle.gix_refspec_text.specs.Matching.Side.{candidates, written_name_of}
 use Rattle.gix_refspec_text.specs.Specs.Reading.{all_tags, fetched_alone}
+use Rattle.gix_refspec_text.specs.Texts.Words.{BeginsWith}
 use Rattle.refspec_io.specs.declared.call.Form.{Form}
 use Rattle.refspec_io.specs.Read.{AreRead}
 use Rattle.refspec_io.specs.Refs.{ListsNames}
@@ -28,7 +29,9 @@ use Rattle.refspec_fetch.specs.Report.{Report}
 use Rattle.refspec_commands.specs.declared.fates.answer.Answer.{Answer as FatesAnswer}
 use Rattle.refspec_commands.specs.declared.fates.question.Known.TheVariants as known
 use Rattle.refspec_commands.specs.declared.fates.question.Question.{Question}
+use Rattle.refspec_commands.specs.declared.fates.roles.LocalAnswer.{LocalAnswer}
 use Rattle.refspec_commands.specs.Fates.{AddsAnswer, IsAnswer, IsFetched, IsUnfetched}
+use Rattle.refspec_commands.specs.Locals.{AddsLocalAnswer, IsLocalAnswer, IsUnwritten, IsWritten}
 use Rattle.refspec_request.specs.Calls.{requested}
 use Rattle.refspec_request.specs.Choices.{HasNoOldForm, IsFetchedFrom, IsOldForm, RefusesRemote}
 use Rattle.refspec_request.specs.declared.arguments.Request.{Request}
@@ -161,13 +164,43 @@ pub record ReportsRef (s : Specs) (g : List Reading) (items : List Item) (name :
   pub reported : AddsAnswer old.form question.name.now answer old.results new.results
   pub ended : HasStatus answer status
 
+-- the exit status of a local ref: 0 if it is written, else 1
+abbrev pub HasLocalStatus : List ℕ → LocalAnswer → ℕ → Type 0
+HasLocalStatus n a status = (IsWritten n a × (status ≡ 0)) ⊎ (IsUnwritten n a × (status ≡ 1))
+
+-- what the specs, with that of all tags if they are asked for, have to do with a local ref of this name was reported
+pub record ReportsLocal (s : Specs) (g : List Reading) (items : List Item) (name : List ℕ) (status : ℕ)
+    (old new : Report) : Type 0 where
+  pub question : Question
+  pub answer : LocalAnswer
+  pub name : question.name.now ≡ name
+  pub counted : map reading_of question.specs.now ≡ g ++ cond (takes_all s.tags) (all_tags ∷ []) []
+  pub refs : question.refs.now ≡ items
+  pub known : question.known ≡ known.Listed
+  pub answered : IsLocalAnswer question answer
+  pub reported : AddsLocalAnswer old.form name answer old.results new.results
+  pub ended : HasLocalStatus name answer status
+
+-- the name is that of a tracking ref, and none of the refs of the remote has it; or it isn't, or one has it
+abbrev pub IsLocal : List Item → List ℕ → Type 0
+IsLocal items name = BeginsWith (codes "refs/remotes/") name × IsUnlisted items name
+
+abbrev pub IsRemote : List Item → List ℕ → Type 0
+IsRemote items name = ¬ (BeginsWith (codes "refs/remotes/") name) ⊎ IsListed items name
+
+-- what is reported of it then
+abbrev pub ReportsAsked : Specs → List Reading → List Item → List ℕ → ℕ → Report → Report → Type 0
+ReportsAsked s g items name status old new =
+    (IsLocal items name × ReportsLocal s g items name status old new)
+    ⊎ (IsRemote items name × ReportsRef s g items name status old new)
+
 -- the same for the refs that `git ls-remote` lists, and the readings of the specs
 pub record ReportsListed (s : Specs) (lines name : List ℕ) (status : ℕ) (old new : Report) : Type 0 where
   pub g : List Reading
   pub items : List Item
   pub read : AreRead (map said (texts_in s)) g
   pub listed : ListsNames 10 lines (map ref_of items) []
-  pub reported : ReportsRef s g items name status old new
+  pub reported : ReportsAsked s g items name status old new
 
 -- that; or only the specs that are refused, or the bad lines, with status 1
 abbrev pub ReportsFates : Specs → List ℕ → List ℕ → ℕ → Report → Report → Type 0

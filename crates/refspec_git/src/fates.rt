@@ -1,4 +1,5 @@
-//! What `git refspec why` reports: what each spec of a fetch does with one ref of the remote.
+//! What `git refspec why` reports: what each spec of a fetch does with one ref of the remote, or has to do with a tracking
+//! ref.
 
 ghost use Rattle.std.specs.Prelude.{◌≡◌, ◌≢◌, ◌++◌, ◌∷◌, [], IfErr, IfOk, MatchBool, MatchOption, MatchResult, OnOk};
 ghost use Rattle.std.specs.Prelude.{cond, map};
@@ -17,6 +18,7 @@ ghost use Rattle.refspec_git.specs.Answers.{Requests};
 ghost use Rattle.refspec_git.specs.Fates.{AddsOwnSpec, AnswersAbout, AnswersFates, AreCounted, HasStatus, IsAlone, IsAsked};
 ghost use Rattle.refspec_git.specs.Fates.{IsAskedBy, IsListed, IsUnlisted, MayBeAlone, MeansRef, NeverAlone, PlansFor};
 ghost use Rattle.refspec_git.specs.Fates.{RefusesAbout, RefusesAsked, RefusesFates, RefusesName, ReportsFates, ReportsRef};
+ghost use Rattle.refspec_git.specs.Fates.{HasLocalStatus, IsLocal, IsRemote, ReportsAsked, ReportsLocal};
 ghost use Rattle.refspec_git.specs.Named.{HasFirst};
 
 use crate::answer::{Answer, Machine, Stop, asks, reports};
@@ -34,6 +36,8 @@ use gix_refspec_text::side::{candidates, joined, written_name};
 use refspec_commands::fates::answer::{Answer as Fates, answer_to};
 use refspec_commands::fates::question::{Configured, Holder, Kind, Known, Question};
 use refspec_commands::fates::report::report_answer;
+use refspec_commands::fates::role_report::report_local_answer;
+use refspec_commands::fates::roles::{LocalAnswer, local_answer_to};
 use refspec_fetch::fetch::{RefInput, refs_in};
 use refspec_fetch::question::Tags;
 use refspec_io::fault::Fault;
@@ -223,9 +227,37 @@ fn refs_listed<'i>(
     refs_in(alloc, &input, id, report)
 }
 
+// Reports what a fetch with these specs, of which the first are given, does with a ref among these, or what it has to do
+// with a local one. Returns the exit status.
+fn report_with<'a>(
+    alloc: Global,
+    inquiry: &'a Inquiry<'a>,
+    specs: &'a [RefSpecRef<'a>],
+    list: &'a RefList<'a>,
+    report: &mut Report,
+) -> Result<u8, AllocError>
+    ensures { IfOk result (λ status. ReportsAsked inquiry.now.specs (map reading_of specs.now) list.now.items.items
+        inquiry.now.name.now status (report_of report.old) (report_of report.new)) }
+{
+    if is_local(inquiry.name, list) {
+        return report_local(alloc, inquiry, specs, list, report);
+    }
+    report_remote(alloc, inquiry, specs, list, report)
+}
+
+// Whether a name is that of a tracking ref, which the remote lacks.
+fn is_local(name: &[u8], list: &RefList<'_>) -> bool
+    ensures { MatchBool result (IsLocal list.now.items.items name.now) (IsRemote list.now.items.items name.now) }
+{
+    if !name.starts_with(b"refs/remotes/") {
+        return false;
+    }
+    !is_listed(list.items.as_slice(), name)
+}
+
 // Reports what a fetch with these specs, of which the first are given, does with a ref among these. Returns the exit
 // status.
-fn report_with<'a>(
+fn report_remote<'a>(
     alloc: Global,
     inquiry: &'a Inquiry<'a>,
     specs: &'a [RefSpecRef<'a>],
@@ -247,6 +279,38 @@ fn report_with<'a>(
     let answer = answer_to(alloc, &question)?;
     report_answer(alloc, &question, inquiry.holder, &answer, report)?;
     Ok(status_of(&answer))
+}
+
+// Reports what a fetch with these specs has to do with a local ref, if the remote has these refs. Returns the exit status.
+fn report_local<'a>(
+    alloc: Global,
+    inquiry: &'a Inquiry<'a>,
+    specs: &'a [RefSpecRef<'a>],
+    list: &'a RefList<'a>,
+    report: &mut Report,
+) -> Result<u8, AllocError>
+    ensures { IfOk result (λ status. ReportsLocal inquiry.now.specs (map reading_of specs.now) list.now.items.items
+        inquiry.now.name.now status (report_of report.old) (report_of report.new)) }
+{
+    let mut all = Vec::from_slice(alloc, specs)?;
+    add_all_tags(inquiry.specs.tags, &mut all)?;
+    let known = Known::Listed;
+    let question = Question {
+        name: inquiry.name,
+        specs: all.as_slice(),
+        refs: list.items.as_slice(),
+        known,
+    };
+    let answer = local_answer_to(alloc, &question)?;
+    report_local_answer(alloc, &question, inquiry.holder, &answer, report)?;
+    Ok(local_status_of(inquiry.name, &answer))
+}
+
+// The exit status: 0 if the local ref of this name is written, else 1.
+fn local_status_of(name: &[u8], answer: &LocalAnswer) -> u8
+    ensures { HasLocalStatus name.now answer.now result }
+{
+    if answer.is_written(name) { 0 } else { 1 }
 }
 
 // The exit status: 0 if the ref is fetched, else 1.

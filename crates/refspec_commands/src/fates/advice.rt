@@ -7,7 +7,7 @@ use crate::fates::ways::{write_addition, write_exchange, write_list, write_remov
 use crate::full_names::{full_name, write_argument};
 use bstr::BString;
 use gix_refspec::match_group::ref_names::is_ref_name;
-use gix_refspec_text::side::strip_refs;
+use gix_refspec_text::side::{joined, strip_refs};
 use gix_refspec_why::{Effect, Fate};
 use refspec_io::canonical::text_at;
 use refspec_io::quote::write_in_message;
@@ -281,11 +281,12 @@ fn tracking_path<'q>(name: &'q [u8], holder: Holder<'_>) -> Option<&'q [u8]> {
     }
 }
 
-// That a tracking ref is named, and which command says where it comes from.
+// That a tracking ref is named, and which command says which spec writes it.
 fn track_advice(alloc: Global, path: &[u8]) -> Result<Vec<u8>, AllocError> {
-    let mut advice = Vec::from_slice(alloc, b"If that is a ref here, `git refspec track ")?;
-    write_argument(path, &mut advice)?;
-    advice.extend_from_slice(b"` says from which ref of the remote it comes.")?;
+    let name = joined(alloc, b"refs/remotes/", path, b"")?;
+    let mut advice = Vec::from_slice(alloc, b"If that is a ref here, `git refspec why ")?;
+    write_argument(name.as_bytes(), &mut advice)?;
+    advice.extend_from_slice(b"` says which spec writes it.")?;
     Ok(advice)
 }
 

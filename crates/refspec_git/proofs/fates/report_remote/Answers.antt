@@ -8,7 +8,7 @@ use Rattle.refspec_fetch.specs.Report.{report_of}
 use Rattle.refspec_commands.specs.declared.fates.question.Known.TheVariants as known
 use Rattle.refspec_commands.specs.declared.fates.question.Question.{Question}
 use Rattle.refspec_git.specs.Fates.{AreCounted, MeansRef, ReportsRef}
-use Rattle.refspec_git.proofs.fates.report_with.Goals as goal
+use Rattle.refspec_git.proofs.fates.report_remote.Goals as goal
 
 pub returns : goal.returns
 returns c =
