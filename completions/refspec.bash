@@ -26,7 +26,7 @@ _refspec() {
     plan) options="$options --refs --configured --merge --tags --local --long --all" ;;
     stale) options="$options --refs --local" ;;
     track) options="$options --ref" ;;
-    prefixes) options="$options --patterns" ;;
+    prefixes) options="$options --patterns --push --tags --head --merge" ;;
     upstream) options="$options --merge" ;;
     why) options="$options --ref --local --refs" ;;
     esac

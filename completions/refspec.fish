@@ -73,6 +73,10 @@ complete -c refspec -n '__fish_seen_subcommand_from prefixes' -s z -d 'Reads and
 complete -c refspec -n '__fish_seen_subcommand_from prefixes' -l read-z -d 'Reads records that end with a zero byte, and writes lines'
 complete -c refspec -n '__fish_seen_subcommand_from prefixes' -l json -d 'Writes one JSON object a line, refusals too'
 complete -c refspec -n '__fish_seen_subcommand_from prefixes' -l patterns -d 'Writes patterns for `git ls-remote` instead of arguments of protocol v2'
+complete -c refspec -n '__fish_seen_subcommand_from prefixes' -l push -d 'The specs are for a push, and not for a fetch'
+complete -c refspec -n '__fish_seen_subcommand_from prefixes' -l tags -d 'Asks for all tags too, as a client does that follows tags'
+complete -c refspec -n '__fish_seen_subcommand_from prefixes' -l head -d 'Asks for HEAD too, as a clone does'
+complete -c refspec -n '__fish_seen_subcommand_from prefixes' -l merge -x -d 'A ref to ask for too, which the current branch merges; may be given again'
 complete -c refspec -n '__fish_seen_subcommand_from prefixes' -s h -l help -d 'Print help'
 
 complete -c refspec -n '__fish_seen_subcommand_from upstream' -l specs -r -F -d 'Reads specs from this file too, or from the standard input for `-`'

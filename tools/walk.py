@@ -13,7 +13,7 @@ import kit  # beside this script
 PAGE = "docs/MAINTAINING.md"
 LIBRARY = ("gix_refspec_text", "gix_refspec_match", "gix_refspec", "gix_refspec_plan", "gix_refspec_lint", "gix_refspec_why", "gix_refspec_remote")
 FUNCTIONS, FILES = 32, 10
-STEP = re.compile(r"\d+\. `([^`]+\.rt)` of `(\w+)`: (.*)")
+STEP = re.compile(r"\d+\. `(\w+)/([^`]+\.rt)`: (.*)")
 ASIDE = "Not entered: "
 NAME = re.compile(r"`(\w+)`")
 DEFINED = re.compile(r"\s*(?:pub(?:\([a-z]+\))? )?fn (\w+)")
@@ -29,7 +29,7 @@ def walk(lines):
         step = STEP.fullmatch(line)
         inside = line.startswith(ASIDE) or inside and line != ""
         if step:
-            entered.append((f"crates/{step[2]}/src/{step[1]}", NAME.findall(step[3])))
+            entered.append((f"crates/{step[1]}/src/{step[2]}", NAME.findall(step[3])))
         elif inside:
             aside.update(NAME.findall(line))
     return entered, aside

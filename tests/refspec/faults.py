@@ -47,6 +47,8 @@ COMMANDS = [
     Case(["stale", "--local", "local", "refs/heads/*:refs/x/*"], {"local": LOCAL}, REFS),
     Case(["prefixes", "refs/*:refs/*", "refs/heads/*:refs/x/*"]),
     Case(["prefixes", "main", "*:refs/x/*"]),
+    Case(["prefixes", "--tags", "--head", "--merge", "dev", "--merge", "refs/heads/a", "refs/heads/*:refs/x/*"]),
+    Case(["prefixes", "--push", "--json", "main", "a/*:refs/heads/*"]),
     Case(["track", "--json", "--ref", "refs/x/a", "--ref", "y", "refs/heads/*:refs/x/*", "a:" + "1" * 40]),
     Case(["upstream", "--merge", "refs/heads/a", "--merge", "refs/heads/b", "refs/heads/a*:refs/x/*", "^refs/tags/a"]),
     Case(["upstream", "--json", "--merge", "refs/heads/a", "--merge", "refs/tags/a", "refs/heads/*:refs/x/*", "^refs/heads/a"]),

@@ -16,7 +16,7 @@ from helpers.schema import jsonschema, listed, loaded, validator
 SAMPLES = (("refspec.sample", b"= ", True), ("git-refspec.sample", b"$ ", False))
 # What only a call with 65,536 specs prints, which no sample has.
 LARGE = {"kind": "all",
-         "message": "These specs have more than 65,535 prefixes, and a server ignores so many. So ask for all refs."}
+         "message": "There are more than 65,535 prefixes, which a server ignores, or one is too long for a packet line. So ask for all refs."}
 
 
 def objects(name, call, is_escaped):

@@ -40,7 +40,7 @@ OPTIONS = {
     "plan": ["--json", "--long", "--all", "-z", "--read-z", "--tags", "--refs", "--configured", "--merge", "--local", "--specs"],
     "stale": ["--json", "-z", "--read-z", "--refs", "--local", "--specs"],
     "track": ["--json", "-z", "--read-z", "--ref", "--specs"],
-    "prefixes": ["--json", "--patterns", "--push", "-z", "--read-z", "--specs"],
+    "prefixes": ["--json", "--patterns", "--push", "--tags", "--head", "--merge", "-z", "--read-z", "--specs"],
     "upstream": ["--json", "-z", "--read-z", "--merge", "--specs"],
     "prefetch": ["--json", "-z", "--read-z", "--specs"],
     "rename": ["--json", "-z", "--read-z", "--specs"],

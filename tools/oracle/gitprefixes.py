@@ -1,7 +1,7 @@
-"""What a server lists for ref prefixes: `git upload-pack`, asked by `ls-refs` of protocol v2 over a pipe. And which refs the specs of a
-fetch take, by git-fetch(1) and gitrevisions(7), told apart from the library.
+"""What a server lists for ref prefixes: `git upload-pack`, asked by `ls-refs` of protocol v2 over a pipe. And for which refs a client
+asks, by git-fetch(1), git-push(1) and gitrevisions(7), told apart from the library.
 
-A group is specs without negative ones, refs, and the ref prefixes that a program sends for the specs.
+A group is specs without negative ones, refs, the ref prefixes that a program sends for the specs, and the options of its call.
 """
 import collections
 import hashlib
@@ -9,7 +9,9 @@ import os
 import subprocess
 import zlib
 
-Group = collections.namedtuple("Group", "specs refs prefixes")
+Group = collections.namedtuple("Group", "specs refs prefixes options", defaults=[()])
+# For which refs a client asks: those that a pattern matches, the one of this name, the first candidate, or each candidate.
+Ask = collections.namedtuple("Ask", "kind text")
 CANDIDATES = [b"%s", b"refs/%s", b"refs/tags/%s", b"refs/heads/%s", b"refs/remotes/%s", b"refs/remotes/%s/HEAD"]
 TREE = b"tree 0\0"
 CONFIG = "[core]\nrepositoryformatversion = 0\nbare = true\n[protocol]\nversion = 2\n"
@@ -64,31 +66,50 @@ def is_id(text):
     return len(text) in (40, 64) and all(byte in b"0123456789abcdefABCDEF" for byte in text)
 
 
-def taken(spec, refs):
-    """The names that a spec takes among the refs."""
-    text = source(spec)
-    if b"*" in text:
-        before, after = text.split(b"*")
+def asks(group):
+    """For which refs a client asks by specs and options."""
+    is_push = b"--push" in group.options
+    for spec in group.specs:
+        text = spec.rpartition(b":")[2] if is_push else source(spec)
+        if b"*" in text:
+            yield Ask("pattern", text)
+        elif text.startswith(b"refs/"):
+            yield Ask("name", text)
+        elif not is_id(text):
+            yield Ask("each" if is_push else "first", text)
+    for option in group.options:
+        if option == b"--tags":
+            yield Ask("pattern", b"refs/tags/*")
+        elif option == b"--head":
+            yield Ask("name", b"HEAD")
+        elif option.startswith(b"--merge="):
+            text = option.partition(b"=")[2]
+            yield Ask("name" if text == b"HEAD" or text.startswith(b"refs/") else "first", text)
+
+
+def taken(ask, refs):
+    """The names among the refs for which a client asks."""
+    if ask.kind == "pattern":
+        before, after = ask.text.split(b"*")
         return {name for name in refs
                 if len(name) >= len(before + after) and name.startswith(before) and name.endswith(after)}
-    if text.startswith(b"refs/"):
-        return {text} & set(refs)
-    if is_id(text):
-        return set()
-    return set([name % text for name in CANDIDATES if name % text in refs][:1])
+    if ask.kind == "name":
+        return {ask.text} & set(refs)
+    found = [name % ask.text for name in CANDIDATES if name % ask.text in refs]
+    return set(found if ask.kind == "each" else found[:1])
 
 
-def mapped(specs, refs):
-    return set().union(*(taken(spec, refs) for spec in specs))
+def mapped(group):
+    return set().union(*(taken(ask, group.refs) for ask in asks(group)))
 
 
-def example(specs, prefix):
-    """A ref that a server can have, that a spec takes if there is no other, and whose name begins with the prefix; if there is one."""
-    for spec in specs:
-        text = source(spec)
-        names = [text.replace(b"*", b"a")] if b"*" in text else [text, *(name % text for name in CANDIDATES)]
+def example(group, prefix):
+    """A ref that a server can have, for which a client asks if there is no other, and whose name begins with the prefix; if there is
+    one."""
+    for ask in asks(group):
+        names = [ask.text.replace(b"*", b"a")] if b"*" in ask.text else [ask.text, *(name % ask.text for name in CANDIDATES)]
         for name in names:
-            if name.startswith(prefix) and (name == b"HEAD" or name.startswith(b"refs/")) and taken(spec, [name]):
+            if name.startswith(prefix) and (name == b"HEAD" or name.startswith(b"refs/")) and taken(ask, [name]):
                 return name
     return None
 
@@ -99,11 +120,11 @@ def faults(group, path):
         if any(one is not other and one.startswith(other) for other in group.prefixes):
             yield b"%s begins with another one" % one
     repository(path, group.refs)
-    lost = mapped(group.specs, group.refs) - (listed(path, group.prefixes) if group.prefixes else set())
+    lost = mapped(group) - (listed(path, group.prefixes) if group.prefixes else set())
     if lost:
         yield b"not listed: " + b" ".join(sorted(lost))
     for index, prefix in enumerate(group.prefixes):
-        name = example(group.specs, prefix)
+        name = example(group, prefix)
         if name is None:
             # No server has such a ref: a partial name is a ref of its own only outside `refs/`.
             if prefix == b"HEAD" or prefix.startswith(b"refs/"):

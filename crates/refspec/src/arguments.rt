@@ -2,6 +2,7 @@
 
 use bstr::BStr;
 use clap::{Arg, ArgAction, ArgMatches};
+use gix_refspec::name::name_partial;
 use gix_refspec::parse;
 use gix_refspec::parsing::{Error, Operation};
 use refspec_io::call::{Call, Command, Form, Limit, Terminator};
@@ -266,7 +267,23 @@ fn prefixes_line<'a>(alloc: Global) -> Result<clap::Command<'a>, AllocError> {
         "patterns",
         "Writes patterns for `git ls-remote` instead of arguments of protocol v2",
     )
-    .long("patterns"))
+    .long("patterns"))?
+    .arg(push_flag(alloc))?
+    .arg(flag(
+        alloc,
+        "tags",
+        "Asks for all tags too, as a client does that follows tags",
+    )
+    .long("tags"))?
+    .arg(flag(alloc, "head", "Asks for HEAD too, as a clone does").long("head"))?
+    .arg(
+        Arg::new(alloc, "merge")
+            .long("merge")
+            .value_name("REF")
+            .num_args(1)
+            .action(ArgAction::Append)
+            .help("A ref to ask for too, which the current branch merges; may be given again"),
+    )
 }
 
 fn upstream_line<'a>(alloc: Global) -> Result<clap::Command<'a>, AllocError> {
@@ -440,9 +457,12 @@ pub fn has_refs(command: Command) -> bool {
     matches!(command, Command::Plan | Command::Stale | Command::Why)
 }
 
-// The refs that branches merge.
+// The refs that branches merge. A call that asks for `HEAD` too asks for that first.
 fn merges_of<'a>(alloc: Global, matches: &ArgMatches<'a>) -> Result<Vec<BStr<'a>>, AllocError> {
     let mut merges = Vec::new(alloc);
+    if matches.get_flag("head") {
+        merges.push(BStr::new(b"HEAD"))?;
+    }
     for name in listed(alloc, matches, "merge")? {
         merges.push(BStr::new(name.as_bytes()))?;
     }
@@ -457,6 +477,19 @@ pub fn names_two_inputs(name: &str, matches: &ArgMatches<'_>) -> bool {
     };
     let is_file = matches.get_str("specs").is_some_and(|file| file != INPUT);
     has_refs(command_of(name)) && has_dash && is_file
+}
+
+/// The first name that `prefixes` is to ask for and that no ref can have.
+pub fn invalid_merge<'a>(name: &str, matches: &ArgMatches<'a>) -> Option<&'a str> {
+    if command_of(name) != Command::Prefixes {
+        return None;
+    }
+    for merge in matches.get_strs("merge")? {
+        if name_partial(BStr::new(merge.as_bytes())).is_err() {
+            return Some(*merge);
+        }
+    }
+    None
 }
 
 /// Whether Git takes a text for the name of a remote: it can be a folder of tracking refs. Fails if memory runs out.

@@ -7,7 +7,7 @@ mod git;
 mod streams;
 
 use crate::arguments::{
-    call_of, command_line, has_refs, is_remote_name, names_no_file, names_two_inputs,
+    call_of, command_line, has_refs, invalid_merge, is_remote_name, names_no_file, names_two_inputs,
 };
 use crate::files::{fault_of, open};
 use crate::git::run_git;
@@ -86,6 +86,13 @@ fn run_parsed(rt: &HostRuntime, arguments: &[String]) -> u8 {
         Some(("git", matches)) => run_git(rt, matches.get_str("folder").unwrap_or("")),
         Some((name, matches)) if names_two_inputs(name, matches) => {
             let _ = eprintln!(rt; "refspec: give the specs in one file, by - or by --specs");
+            USAGE_STATUS
+        }
+        Some((name, matches)) if invalid_merge(name, matches).is_some() => {
+            let _ = eprintln!(rt;
+                "refspec: {:?} is not a valid ref name",
+                invalid_merge(name, matches).unwrap_or("")
+            );
             USAGE_STATUS
         }
         Some((name, matches)) => {

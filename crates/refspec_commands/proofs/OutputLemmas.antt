@@ -39,7 +39,7 @@ use Rattle.refspec_commands.specs.Warned.{AddsSaid, nothing_asked}
 use Rattle.refspec_commands.specs.Warnings.{AddsCheck, IsCheck, IsStatus, IsStrictStatus, ShowsCheck, WarnsIf}
 use Rattle.refspec_commands.proofs.KeyLemmas.{WarnsIf-nothing}
 use Rattle.refspec_commands.specs.Prefetches.{AddsPrefetches}
-use Rattle.refspec_commands.specs.Prefixes.{AddsPrefixes}
+use Rattle.refspec_commands.specs.Prefixes.{AddsBeside}
 use Rattle.refspec_commands.specs.Renames.{AddsRenamed}
 use Rattle.refspec_commands.specs.Track.{AddsTracked}
 use Rattle.refspec_commands.specs.Upstreams.{AddsUpstreams}
@@ -264,7 +264,8 @@ ReportsChecked-found command.Why task all old new refused no_canon no_explain re
 pub AddsFound-prefixes : (k : Command) (task : Task) (f : Form) (before messages : List ℕ) (g : List Reading)
     (old new : List ℕ) → (k ≡ command.Plan → ⊥) → (k ≡ command.Stale → ⊥) → (k ≡ command.Track → ⊥)
     → (k ≡ command.Upstream → ⊥) → (k ≡ command.Prefetch → ⊥) → (k ≡ command.Why → ⊥)
-    → AddsPrefixes (notation_of task.call.now.patterns) f g old new → AddsFound k task f before messages false g old new
+    → AddsBeside (map bstr_bytes task.call.now.merges.items) task.call.now.tags (notation_of task.call.now.patterns) f g
+    old new → AddsFound k task f before messages false g old new
 AddsFound-prefixes command.Canon task f before messages g old new no_plan no_stale no_track no_upstream no_prefetch
     no_why reported = tt
 AddsFound-prefixes command.Check task f before messages g old new no_plan no_stale no_track no_upstream no_prefetch

@@ -4,10 +4,12 @@ use Rattle.std.proofs.Common.{codes, List, [], ◌∷◌, ◌++◌, ◌≢◌, �
 use Rattle.std.proofs.Common.{◌==◌, length, map, take, refl, sym, ap, ◌∙◌, subst, arith}
 use Rattle.std.proofs.lemmas.Bool.{eqb-true, false≢true}
 use Rattle.std.proofs.lemmas.Grind.{flat_map-append}
-use Rattle.std.proofs.lemmas.List.{append-nil, length-map, map-append, take_more}
+use Rattle.std.proofs.lemmas.List.{append-nil, length-map, map-append, map_more, take_more}
 use Rattle.refspec_io.specs.declared.call.Form.{Form}
 use Rattle.refspec_io.specs.declared.call.Form.TheVariants as form
+use Rattle.bstr.specs.BStr.{bstr_bytes}
 use Rattle.bstr.specs.Owned.{bstring_bytes}
+use Rattle.bstr.specs.declared.bstr.BStr.{BStr}
 use Rattle.bstr.specs.declared.bstring.BString.{BString}
 use Rattle.gix_refspec.specs.Specs.Reading.{Reading}
 use Rattle.gix_refspec.specs.Views.Spec.{reading_of}
@@ -16,13 +18,14 @@ use Rattle.refspec_io.specs.Json.{AddsObjects}
 use Rattle.refspec_io.specs.Shown.{AddsNames}
 use Rattle.refspec_io.proofs.JsonLemmas.{AddsObjects-next}
 use Rattle.refspec_io.proofs.ShownLemmas.{AddsNames-append, AddsNames-none, behind}
-use Rattle.gix_refspec.specs.Matching.Asked.{Requests}
+use Rattle.gix_refspec.specs.Matching.Asked.{Requests, RequestsBeside}
 use Rattle.gix_refspec.specs.declared.match_group.prefixes.RefPrefixes.{RefPrefixes}
 use Rattle.gix_refspec.specs.declared.match_group.prefixes.RefPrefixes.TheVariants as requested
 use Rattle.refspec_commands.specs.declared.prefixes.report.Notation.{Notation}
-use Rattle.refspec_commands.specs.Prefixes.{AddsAll, AddsRequests, AddsTooMany, AddsWhole, AreOthers, AreReasons}
-use Rattle.refspec_commands.specs.Prefixes.{CanBeListed, IsReason, IsReasonObject, IsWhole, TakesWhole, argument}
-use Rattle.refspec_commands.specs.Prefixes.{asked_object, request}
+use Rattle.gix_refspec_match.proofs.Common.{joined_next, map_long}
+use Rattle.refspec_commands.specs.Prefixes.{AddsAll, AddsRequests, AddsTooMany, AddsWhole, AreNamed, AreOthers}
+use Rattle.refspec_commands.specs.Prefixes.{AreReasons, AsksByName, CanBeListed, IsReason, IsReasonObject, IsWhole}
+use Rattle.refspec_commands.specs.Prefixes.{TakesWhole, argument, asked_object, request}
 
 -- what stands for all refs, and one more reason
 pub AddsAll-next : (n : Notation) (f g : Form) (specs : List RefSpecRef) (i : ℕ) (s : RefSpecRef) (old mid new : List ℕ)
@@ -109,6 +112,30 @@ IsWhole-same specs others whole most are none =
       many.1 (omega (arith, most, length-map others reading_of, length-map specs reading_of, many.0)),
       ap (map bstring_bytes) none,
     )
+
+-- two lists of ref prefixes in one
+both_lists : (list first second : List BString) → list ≡ first ++ second
+    → map bstring_bytes list ≡ map bstring_bytes first ++ map bstring_bytes second
+both_lists list first second same = ap (map bstring_bytes) same ∙ map-append bstring_bytes first second
+
+-- what is requested beside the specs, and `refs/`, in one list
+pub RequestsBeside-whole : (list beside whole : List BString) (g : List Reading) (asked : RefPrefixes)
+    → list ≡ beside ++ whole → RequestsBeside (map bstring_bytes list) g asked
+    → RequestsBeside (map bstring_bytes beside ++ map bstring_bytes whole) g asked
+RequestsBeside-whole list beside whole g asked same requests =
+    subst (λ (l : List (List ℕ)). RequestsBeside l g asked) (both_lists list beside whole same) requests
+
+-- one more name that is asked for
+pub AreNamed-next : (names : List BStr) (i : ℕ) (d : BStr) (x : List ℕ) (old own new : List BString)
+    → i < length names → x ≡ bstr_bytes (get_or names i d) → new ≡ old ++ own → AsksByName x (map bstring_bytes own)
+    → AreNamed (map bstr_bytes (take i names)) (map bstring_bytes old)
+    → AreNamed (map bstr_bytes (take (i + 1) names)) (map bstring_bytes new)
+AreNamed-next names i d x old own new below is grown asks so_far =
+    subst (AreNamed (map bstr_bytes (take (i + 1) names))) (sym (both_lists new old own grown))
+    (subst (λ (l : List (List ℕ)). AreNamed l (map bstring_bytes old ++ map bstring_bytes own))
+    (ap (λ (n : List ℕ). map bstr_bytes (take i names) ++ n ∷ []) is ∙ sym (map_more bstr_bytes names i d below))
+    (joined_next (λ k n list. AsksByName n list) i (map bstr_bytes (take i names)) x (map bstring_bytes old)
+    (map bstring_bytes own) (map_long bstr_bytes names i below) so_far asks))
 
 -- ---- the specs that are the reason why all refs are requested
 

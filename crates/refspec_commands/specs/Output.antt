@@ -27,7 +27,7 @@ use Rattle.refspec_commands.specs.declared.prefixes.report.Notation.{Notation}
 use Rattle.refspec_commands.specs.declared.prefixes.report.Notation.TheVariants as notation
 use Rattle.refspec_commands.specs.Locals.{AddsWhy}
 use Rattle.refspec_commands.specs.Prefetches.{AddsPrefetches}
-use Rattle.refspec_commands.specs.Prefixes.{AddsPrefixes}
+use Rattle.refspec_commands.specs.Prefixes.{AddsBeside}
 use Rattle.refspec_commands.specs.Renames.{AddsRenamed}
 use Rattle.refspec_commands.specs.Track.{AddsTracked}
 use Rattle.refspec_commands.specs.Upstreams.{AddsUpstreams}
@@ -50,7 +50,8 @@ AddsFound command.Stale task form before after refused g old new =
 AddsFound command.Track task form before after refused g old new =
     AddsTracked form (map (λ w. w.now) task.call.now.refs.items) refused g old new
 AddsFound command.Prefixes task form before after refused g old new =
-    AddsPrefixes (notation_of task.call.now.patterns) form g old new × (refused ≡ false)
+    AddsBeside (map bstr_bytes task.call.now.merges.items) task.call.now.tags
+    (notation_of task.call.now.patterns) form g old new × (refused ≡ false)
 AddsFound command.Upstream task form before after refused g old new =
     AddsUpstreams form (map bstr_bytes task.call.now.merges.items) refused g old new
 AddsFound command.Prefetch task form before after refused g old new =

@@ -1,14 +1,18 @@
 -- What `prefixes` requests from a server, and its output, in the terms of the library.
-use Rattle.std.specs.Prelude.{◌≡◌, ◌≢◌, ◌⊎◌, ℕ, List, [], ◌∷◌, ◌++◌, Some, map, codes}
+use Rattle.std.specs.Prelude.{◌≡◌, ◌≢◌, ◌⊎◌, ℕ, Bool, List, [], ◌∷◌, ◌++◌, Some, map, codes, cond}
 use Rattle.std.specs.List.{flat_map}
 use Rattle.bstr.specs.Owned.{bstring_bytes}
 use Rattle.gix_refspec.specs.Matching.Asked.{Requests, RequestsBeside}
 use Rattle.gix_refspec.specs.declared.match_group.prefixes.RefPrefixes.{RefPrefixes}
 use Rattle.gix_refspec.specs.declared.match_group.prefixes.RefPrefixes.TheVariants as requested
+use Rattle.gix_refspec.specs.Matching.RefNames.{IsRefName}
 use Rattle.gix_refspec.specs.Specs.Grammar.{IsPositive}
 use Rattle.gix_refspec.specs.Specs.Meaning.{printed}
-use Rattle.gix_refspec.specs.Specs.Reading.{Reading}
+use Rattle.gix_refspec.specs.Specs.Reading.{Reading, remote_of}
 use Rattle.gix_refspec.specs.Views.Spec.{reading_of}
+use Rattle.gix_refspec_match.specs.Matching.Lists.{IsJoinedFrom}
+use Rattle.gix_refspec_text.specs.Matching.Side.{candidates}
+use Rattle.gix_refspec_text.specs.Texts.Name.{IsName}
 use Rattle.refspec_json.specs.Objects.{all_object, line_of, noted_object, nothing_object, prefix_object}
 use Rattle.refspec_io.specs.declared.call.Form.{Form}
 use Rattle.refspec_io.specs.declared.call.Form.TheVariants as form
@@ -79,9 +83,10 @@ abbrev pub AddsWhole : Notation → Form → List Reading → List ℕ → List 
 AddsWhole n form [] old new = AddsTooMany n form old new
 AddsWhole n form (r ∷ g) old new = AddsAll n form (r ∷ g) old new
 
--- the spec is positive, and its star is right after `refs/`: Git requests `refs/` for it (git-fetch(1), protocol v2)
+-- the spec is positive, and the star of its side on the remote is right after `refs/`: Git requests `refs/` for it
+-- (git-fetch(1), protocol v2)
 abbrev pub TakesWhole : Reading → Type 0
-TakesWhole r = IsPositive r.mode × ((after : List ℕ) × (r.source ≡ Some (codes "refs/*" ++ after)))
+TakesWhole r = IsPositive r.mode × ((after : List ℕ) × (remote_of r ≡ Some (codes "refs/*" ++ after)))
 
 -- the other specs, in order
 abbrev pub AreOthers : List Reading → List Reading → Type 0
@@ -109,20 +114,41 @@ AreReasons (r ∷ g) reasons =
     (IsReason r × ((rest : List Reading) × AreReasons g rest × (reasons ≡ r ∷ rest)))
     ⊎ (CanBeListed r × AreReasons g reasons)
 
--- the answer is what is requested for specs beside `refs/` or nothing; and if that is all refs, it has the reasons
+-- the answer is what is requested for specs beside some ref prefixes; and if that is all refs, it has the reasons
 abbrev pub AnswersFor : List (List ℕ) → List Reading → Answer → Type 0
-AnswersFor whole others answer.Nothing = RequestsBeside whole others requested.Nothing
-AnswersFor whole others (answer.Listed list) = RequestsBeside whole others (requested.Listed list)
-AnswersFor whole others (answer.All reasons) =
-    RequestsBeside whole others requested.All × AreReasons others (map reading_of reasons.items)
+AnswersFor beside others answer.Nothing = RequestsBeside beside others requested.Nothing
+AnswersFor beside others (answer.Listed list) = RequestsBeside beside others (requested.Listed list)
+AnswersFor beside others (answer.All reasons) =
+    RequestsBeside beside others requested.All × AreReasons others (map reading_of reasons.items)
 
--- the answer for specs with these readings
-pub record IsAnswer (g : List Reading) (a : Answer) : Type 0 where
+-- the answer for specs with these readings, beside some ref prefixes
+pub record IsAnswerBeside (beside : List (List ℕ)) (g : List Reading) (a : Answer) : Type 0 where
   pub others : List Reading
   pub are : AreOthers g others
   pub whole : List (List ℕ)
   pub is_whole : IsWhole g others whole
-  pub answers : AnswersFor whole others a
+  pub answers : AnswersFor (beside ++ whole) others a
+
+-- the answer for the specs alone
+abbrev pub IsAnswer : List Reading → Answer → Type 0
+IsAnswer g a = IsAnswerBeside [] g a
+
+-- the ref prefixes by which a ref with this name is asked for: `HEAD`, or a full name, is asked for by itself, as Git
+-- does; a partial name by its candidates, since it may be any of these; and no server has a ref with an invalid name
+abbrev pub AsksByName : List ℕ → List (List ℕ) → Type 0
+AsksByName n list =
+    (IsRefName n × (list ≡ n ∷ []))
+    ⊎ ((¬ (IsRefName n)) × ((IsName n × (list ≡ candidates n)) ⊎ ((¬ (IsName n)) × (list ≡ []))))
+
+-- those of some names, in order
+abbrev pub AreNamed : List (List ℕ) → List (List ℕ) → Type 0
+AreNamed names list = IsJoinedFrom (λ k n own. AsksByName n own) 0 names list
+
+-- what is requested beside the specs: the refs with some names, and then all tags, if these are asked for; Git follows
+-- the tags of what it fetches
+abbrev pub AreBeside : (names : List (List ℕ)) (tags : Bool) (list : List (List ℕ)) → Type 0
+AreBeside names tags list =
+    (named : List (List ℕ)) × AreNamed names named × (list ≡ named ++ cond tags (codes "refs/tags/" ∷ []) [])
 
 -- the results grew by an answer
 abbrev pub AddsAnswer : Notation → Answer → Form → List ℕ → List ℕ → Type 0
@@ -133,3 +159,12 @@ AddsAnswer n (answer.All reasons) form old new = AddsWhole n form (map reading_o
 -- the results grew by the answer for specs with these readings
 abbrev pub AddsPrefixes : Notation → Form → List Reading → List ℕ → List ℕ → Type 0
 AddsPrefixes n form g old new = (found : Answer) × IsAnswer g found × AddsAnswer n found form old new
+
+-- the results grew by the answer for them and what is requested beside them
+pub record AddsBeside (names : List (List ℕ)) (tags : Bool) (n : Notation) (form : Form) (g : List Reading) (old new :
+    List ℕ) : Type 0 where
+  pub beside : List (List ℕ)
+  pub are : AreBeside names tags beside
+  pub found : Answer
+  pub answers : IsAnswerBeside beside g found
+  pub reported : AddsAnswer n found form old new

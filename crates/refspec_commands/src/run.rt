@@ -13,7 +13,8 @@ ghost use Rattle.refspec_commands.specs.Warnings.{ShowsCheck};
 use crate::checking::{self, Question};
 use crate::fates::report_why;
 use crate::prefetches::report_prefetches;
-use crate::prefixes::answer::answer_to;
+use crate::prefixes::answer::answer_beside;
+use crate::prefixes::beside::beside_of;
 use crate::prefixes::report::{Notation, report_answer};
 use crate::renames::report_renames;
 use crate::specs::report_texts;
@@ -226,7 +227,8 @@ fn report_found(
         Command::Prefetch => report_prefetches(alloc, specs.as_slice(), report),
         Command::Why => report_why(alloc, task, specs.as_slice(), report),
         _ => {
-            let answer = answer_to(alloc, specs.as_slice())?;
+            let beside = beside_of(alloc, call)?;
+            let answer = answer_beside(alloc, specs.as_slice(), beside)?;
             report_answer(alloc, notation_of(call), &answer, report)?;
             Ok(false)
         }

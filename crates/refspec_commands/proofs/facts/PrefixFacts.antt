@@ -1,9 +1,16 @@
 -- Which prefixes are requested, as lines of protocol v2 and as patterns, and which aren't.
-use Rattle.std.proofs.Common.{◌≡◌, ◌≢◌, ℕ, List, [], ◌∷◌, ◌++◌, Some, Vec, Global, inl, inr, codes, length}
+use Rattle.std.proofs.Common.{◌≡◌, ◌≢◌, ℕ, true, false, List, [], ◌∷◌, ◌++◌, Some, Vec, Global, inl, inr, codes, length}
 use Rattle.std.proofs.Common.{map, refl, sym, ap, ◌∙◌, subst, arith}
 use Rattle.std.specs.Str.{chars, is_utf8}
 use Rattle.gix_refspec.specs.Specs.Grammar.{fetched}
 use Rattle.gix_refspec.specs.Specs.Reading.{Negative, Normal, Reading}
+use Rattle.gix_refspec_text.specs.declared.name.Error.TheVariants.{RepeatedDot}
+use Rattle.gix_refspec_text.specs.declared.parsing.Operation.TheVariants as operation
+use Rattle.gix_refspec_text.specs.Matching.Side.{candidates}
+use Rattle.gix_refspec_text.specs.Texts.Bytes.{head}
+use Rattle.gix_refspec_text.specs.Texts.Name.{IsName}
+use Rattle.gix_refspec_text.proofs.lemmas.texts.TestedLemmas.{IsName-tested}
+use Rattle.gix_refspec.proofs.facts.RefNameFacts.{no_ref_names, ref_names}
 use Rattle.gix_refspec.specs.Matching.Asked.{CanBeSent, HasNoList, Lists, ListsBeside, ListsGroup, ListsSide, Requests}
 use Rattle.gix_refspec.specs.declared.match_group.prefixes.RefPrefixes.{RefPrefixes}
 use Rattle.gix_refspec.specs.declared.match_group.prefixes.RefPrefixes.TheVariants as requested
@@ -18,7 +25,8 @@ use Rattle.refspec_io.specs.declared.call.Form.TheVariants as form
 use Rattle.refspec_commands.specs.declared.prefixes.answer.Answer.TheVariants as answer
 use Rattle.refspec_commands.specs.declared.prefixes.report.Notation.TheVariants as notation
 use Rattle.refspec_commands.specs.Prefixes.{AddsAll, AddsNothing, AddsPrefixes, AddsRequests, AddsTooMany, AddsWhole}
-use Rattle.refspec_commands.specs.Prefixes.{AnswersFor, AreOthers, AreReasons, IsReason, TakesWhole, argument}
+use Rattle.refspec_commands.specs.Prefixes.{AnswersFor, AreBeside, AreOthers, AreReasons, AsksByName, IsReason}
+use Rattle.refspec_commands.specs.Prefixes.{TakesWhole, argument}
 use Rattle.refspec_commands.specs.Prefixes.{asked_object, request}
 use Rattle.bstr.specs.Owned.{bstring_bytes}
 use Rattle.bstr.specs.declared.bstring.BString.{BString}
@@ -108,9 +116,14 @@ unlisted list (inr (x, asked, lists)) =
 no_list : HasNoList (every ∷ by_bracket ∷ [])
 no_list = (1, by_bracket, omega arith, refl, unlisted)
 
--- `refs/` is requested if the star is right after it, but not for a negative spec
+-- a push of all refs below `refs/x/` to `refs/`
+abbrev to_all : Reading
+to_all = record (fetched Normal (codes "refs/x/*") (Some (codes "refs/*"))) { operation = operation.Push }
+
+-- `refs/` is requested if the star is right after it on the remote, but not for a negative spec
 pub wholes : TakesWhole all_refs × ¬ (TakesWhole every) × ¬ (TakesWhole no_dev) × ¬ (TakesWhole by_bracket)
-    × ¬ (TakesWhole (record all_refs { mode = Negative }))
+    × ¬ (TakesWhole (record all_refs { mode = Negative })) × TakesWhole to_all
+    × ¬ (TakesWhole (record all_refs { operation = operation.Push }))
 wholes = (
   (tt, ([], refl)),
   (λ takes. other_byte 5 (codes "refs/heads/*") (codes "refs/*" ++ takes.1.0) (λ byte. omega (arith, byte))
@@ -118,8 +131,79 @@ wholes = (
   (λ takes. takes.0),
   (λ takes. other_byte 5 (codes "refs/a]*") (codes "refs/*" ++ takes.1.0) (λ byte. omega (arith, byte))
       (same_Some _ _ takes.1.1)),
-  λ takes. takes.0,
+  (λ takes. takes.0),
+  (tt, ([], refl)),
+  λ takes. other_byte 5 (codes "refs/x/*") (codes "refs/*" ++ takes.1.0) (λ byte. omega (arith, byte))
+      (same_Some _ _ takes.1.1),
 )
+
+-- `HEAD` and a full name are asked for by themselves, a partial name by its candidates, and an invalid one not at all
+pub by_name : AsksByName head (head ∷ []) × AsksByName (codes "refs/heads/main") (codes "refs/heads/main" ∷ [])
+    × AsksByName (codes "main") (candidates (codes "main")) × AsksByName (codes "refs/../x") []
+    × ¬ (AsksByName head (candidates head)) × ¬ (AsksByName (codes "main") (codes "main" ∷ []))
+    × ¬ (AsksByName (codes "refs/../x") (codes "refs/../x" ∷ []))
+by_name = (
+  inl (ref_names.1, refl),
+  inl (ref_names.0, refl),
+  inr (no_ref_names.0, inl (IsName-tested (codes "main") refl, refl)),
+  inr (no_ref_names.2, inr (dotted, refl)),
+  head_completed,
+  partial_alone,
+  invalid_asked,
+)
+  where
+    dotted : ¬ (IsName (codes "refs/../x"))
+    dotted name = name RepeatedDot (record { before = codes "refs/"; after = codes "/x"; here = refl })
+
+    head_completed : ¬ (AsksByName head (candidates head))
+    head_completed (inl (is, same)) = omega (arith, ap length same)
+    head_completed (inr (other, rest)) = other ref_names.1
+
+    partial_alone : ¬ (AsksByName (codes "main") (codes "main" ∷ []))
+    partial_alone (inl (is, same)) = no_ref_names.0 is
+    partial_alone (inr (other, inl (is, same))) = omega (arith, ap length same)
+    partial_alone (inr (other, inr (none, same))) = omega (arith, ap length same)
+
+    invalid_asked : ¬ (AsksByName (codes "refs/../x") (codes "refs/../x" ∷ []))
+    invalid_asked (inl (is, same)) = no_ref_names.2 is
+    invalid_asked (inr (other, inl (is, same))) = dotted is
+    invalid_asked (inr (other, inr (none, same))) = omega (arith, ap length same)
+
+-- names are asked for in order, and then all tags exactly if these are
+pub beside : AreBeside (head ∷ codes "refs/heads/main" ∷ []) true
+    (head ∷ codes "refs/heads/main" ∷ codes "refs/tags/" ∷ [])
+    × AreBeside [] false [] × ¬ (AreBeside [] true []) × ¬ (AreBeside [] false (codes "refs/tags/" ∷ []))
+    × ¬ (AreBeside (head ∷ []) false [])
+beside = (
+  (
+    head ∷ codes "refs/heads/main" ∷ [],
+    (
+      head ∷ [],
+      codes "refs/heads/main" ∷ [],
+      by_name.0,
+      (codes "refs/heads/main" ∷ [], [], by_name.1, refl, refl),
+      refl,
+    ),
+    refl,
+  ),
+  ([], refl, refl),
+  tags_lost,
+  tags_unasked,
+  head_lost,
+)
+  where
+    tags_lost : ¬ (AreBeside [] true [])
+    tags_lost (named, none, same) = omega (arith, ap length (rw none at same))
+
+    tags_unasked : ¬ (AreBeside [] false (codes "refs/tags/" ∷ []))
+    tags_unasked (named, none, same) = omega (arith, ap length (rw none at same))
+
+    head_lost : ¬ (AreBeside (head ∷ []) false [])
+    head_lost (named, (own, rest, inl (is, one), none, all), same) = omega (
+      arith,
+      ap length (rw (all, one, none) at same),
+    )
+    head_lost (named, (own, rest, inr (other, more), none, all), same) = other ref_names.1
 
 -- the other specs stay in order
 pub others : AreOthers (every ∷ all_refs ∷ no_dev ∷ []) (every ∷ no_dev ∷ []) × AreOthers (all_refs ∷ []) []

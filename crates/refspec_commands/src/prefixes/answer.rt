@@ -3,8 +3,8 @@
 ghost use Rattle.std.specs.Prelude.{map, IfOk, MatchBool};
 ghost use Rattle.bstr.specs.Owned.{bstring_bytes};
 ghost use Rattle.gix_refspec.specs.Views.Spec.{reading_of};
-ghost use Rattle.refspec_commands.specs.Prefixes.{AreOthers, AreReasons, CanBeListed, IsAnswer, IsReason};
-ghost use Rattle.refspec_commands.specs.Prefixes.{IsWhole, TakesWhole};
+ghost use Rattle.refspec_commands.specs.Prefixes.{AreOthers, AreReasons, CanBeListed, IsAnswer, IsAnswerBeside};
+ghost use Rattle.refspec_commands.specs.Prefixes.{IsReason, IsWhole, TakesWhole};
 
 use bstr::BString;
 use gix_refspec::match_group::RefPrefixes;
@@ -27,10 +27,23 @@ pub enum Answer<'a> {
 pub fn answer_to<'a>(alloc: Global, specs: &[RefSpecRef<'a>]) -> Result<Answer<'a>, AllocError>
     ensures { IfOk result (IsAnswer (map reading_of specs.now)) }
 {
+    answer_beside(alloc, specs, Vec::new(alloc))
+}
+
+/// The answer for specs and for ref prefixes beside theirs, which come first. Fails if memory runs out.
+pub fn answer_beside<'a>(
+    alloc: Global,
+    specs: &[RefSpecRef<'a>],
+    beside: Vec<BString>,
+) -> Result<Answer<'a>, AllocError>
+    ensures { IfOk result (IsAnswerBeside (map bstring_bytes beside.items) (map reading_of specs.now)) }
+{
     let others = others_of(alloc, specs)?;
-    let whole = whole_of(alloc, specs, others.as_slice())?;
+    let mut whole = whole_of(alloc, specs, others.as_slice())?;
+    let mut list = beside;
+    list.append(&mut whole)?;
     let group = MatchGroup { specs: others };
-    match group.ref_prefixes_beside(alloc, whole)? {
+    match group.ref_prefixes_beside(alloc, list)? {
         RefPrefixes::Nothing => Ok(Answer::Nothing),
         RefPrefixes::Listed(list) => Ok(Answer::Listed(list)),
         RefPrefixes::All => Ok(Answer::All(reasons_among(alloc, group.specs.as_slice())?)),
@@ -54,8 +67,8 @@ fn whole_of(
     Ok(whole)
 }
 
-// The specs, in order, except positive ones with a star right after `refs/`: for those Git requests `refs/`
-// itself, and the library has no prefix.
+// The specs, in order, except positive ones with a star right after `refs/` of the remote: for those Git requests
+// `refs/` itself, and the library has no prefix.
 fn others_of<'a>(alloc: Global, specs: &[RefSpecRef<'a>]) -> Result<Vec<RefSpecRef<'a>>, AllocError>
     ensures { IfOk result (λ others. AreOthers
         (map reading_of specs.now) (map reading_of others.items)) }
@@ -69,7 +82,7 @@ fn others_of<'a>(alloc: Global, specs: &[RefSpecRef<'a>]) -> Result<Vec<RefSpecR
     Ok(others)
 }
 
-// Whether a spec is positive, and the star of its source is right after `refs/`.
+// Whether a spec is positive, and the star of its side on the remote is right after `refs/`.
 fn takes_whole(spec: &RefSpecRef<'_>) -> bool
     ensures { MatchBool result
         (TakesWhole (reading_of spec.now)) (¬ (TakesWhole (reading_of spec.now))) }
@@ -77,9 +90,9 @@ fn takes_whole(spec: &RefSpecRef<'_>) -> bool
     if spec.is_negative() {
         return false;
     }
-    match spec.source() {
+    match spec.remote() {
         None => false,
-        Some(source) => source.as_bytes().starts_with(b"refs/*"),
+        Some(side) => side.as_bytes().starts_with(b"refs/*"),
     }
 }
 

@@ -145,9 +145,9 @@ fn report_whole(
 }
 
 const WHY_ALL_TOGETHER: &str =
-    "These specs have more than 65,535 prefixes, and a server ignores so many. So ask for all refs.";
+    "There are more than 65,535 prefixes, which a server ignores, or one is too long for a packet line. So ask for all refs.";
 
-// Reports that all refs must be requested, as there are too many prefixes.
+// Reports that all refs must be requested, as the prefixes of all together can't be sent.
 fn report_too_many(alloc: Global, notation: Notation, report: &mut Report) -> Result<(), AllocError>
     ensures { OnOk result (AddsTooMany notation report.old.form
         report.old.results.items report.new.results.items) }
@@ -176,6 +176,9 @@ fn write_too_many(alloc: Global, message: &str, out: &mut Vec<u8>) -> Result<(),
 const WHY_ALL: &str =
     "No safe prefix is known for this spec: its star is outside refs/, or after a ]. So ask for all refs.";
 
+const WHY_PUSH: &str =
+    "This push was given without a destination: which refs it writes depends on the local ones. So ask for all refs.";
+
 const WHY_LONG: &str =
     "No prefix of this spec fits into a packet line, of 65,516 bytes. So ask for all refs.";
 
@@ -184,11 +187,10 @@ const LONGEST_PREFIX: usize = 65_505;
 
 // Why a spec has no list that can be sent.
 fn why_all(spec: &RefSpecRef<'_>) -> &'static str {
-    let source = match spec.source() {
-        Some(source) => source.as_bytes(),
-        None => b"",
+    let Some(side) = spec.remote() else {
+        return WHY_PUSH;
     };
-    match source.iter().position(|byte| *byte == b'*') {
+    match side.as_bytes().iter().position(|byte| *byte == b'*') {
         Some(before) if before <= LONGEST_PREFIX => WHY_ALL,
         _ => WHY_LONG,
     }
