@@ -19,7 +19,7 @@ _git_refspec() {
     ,*) __gitcomp "check plan stale track upstream why prefixes" ;;
     check,--*) __gitcomp "--json --verbose --push --strict --no-warnings --remote --help" ;;
     plan,--*) __gitcomp "--json --long --all --prune --refmap --remote --help" ;;
-    prefixes,--*) __gitcomp "--json --patterns --remote --help" ;;
+    prefixes,--*) __gitcomp "--json --patterns --head --remote --help" ;;
     upstream,--*) __gitcomp "--json --help" ;;
     *,--*) __gitcomp "--json --remote --help" ;;
     track,*) __git_complete_refs ;;

@@ -52,6 +52,7 @@ complete -c git -n '__fish_git_refspec_is plan' -l all -d 'Tell every conflict a
 complete -c git -n '__fish_git_refspec_is plan' -l prune -d 'List the refs that a pruning fetch would delete too'
 complete -c git -n '__fish_git_refspec_is plan' -l refmap -x -d 'A spec to use instead of the fetch values'
 complete -c git -n '__fish_git_refspec_is prefixes' -l patterns -d 'Write patterns for git ls-remote'
+complete -c git -n '__fish_git_refspec_is prefixes' -l head -d 'Ask for HEAD too'
 complete -c git -n '__fish_git_refspec_is check plan stale why prefixes' -a '(__fish_git_refspec_git remote)' -d Remote
 complete -c git -n '__fish_git_refspec_is upstream' \
     -a '(__fish_git_refspec_git for-each-ref --format="%(refname:lstrip=2)" refs/heads)' -d Branch

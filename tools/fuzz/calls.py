@@ -53,7 +53,7 @@ GIT_OPTIONS = {
     "track": ["-z", "--json", "--remote"],
     "upstream": ["-z", "--json"],
     "why": ["-z", "--json", "--remote"],
-    "prefixes": ["-z", "--json", "--patterns", "--remote"],
+    "prefixes": ["-z", "--json", "--patterns", "--head", "--remote"],
 }
 FILES = ("--specs", "--refs", "--configured", "--local")
 # Without these two kinds of specs and names, a call is of a group that is as people have them.

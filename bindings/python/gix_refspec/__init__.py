@@ -467,8 +467,9 @@ def compare(a: Text, b: Text, operation: Operation) -> int:
 
 
 def prefixes(fetches: Fetches) -> Union[Request, List[bytes]]:
-    """The ref prefixes to send to a server for fetches, texts or specs, of which none begins with another one; or else
-    Request.NOTHING or Request.ALL. The list isn't empty."""
+    """The ref prefixes to send to a server, so that it lists each ref that fetches, texts or specs, map; none begins with
+    another one. To follow tags, send b"refs/tags/" too, and for a clone b"HEAD". Or else Request.NOTHING or Request.ALL. The
+    list isn't empty."""
     try:
         lines = _filled(_library.gix_refspec_prefixes, *_texts(_fetches(fetches)), Operation.FETCH)
     except RefspecError as error:

@@ -302,7 +302,8 @@ uint32_t gix_refspec_prefix(const uint8_t *text, size_t text_len, uint32_t opera
 uint32_t gix_refspec_expand_prefixes(const uint8_t *text, size_t text_len, uint32_t operation, uint8_t *buffer,
                                      size_t buffer_len, size_t *len);
 
-/* The ref prefixes to send to a server, each with a newline; none begins with another one. If none, send no request.
+/* The ref prefixes to send to a server, so that it lists each ref that the refspecs map, each with a newline; none
+ * begins with another one. To follow tags, send refs/tags/ too, and for a clone HEAD. If none, send no request.
  * GIX_REFSPEC_NO_LIST if only a request for all refs is safe. *len is set as by canonical. */
 uint32_t gix_refspec_prefixes(const gix_refspec_text *texts, size_t count, uint32_t operation, uint8_t *buffer,
                               size_t buffer_len, size_t *len);

@@ -122,16 +122,12 @@ AnswersFor beside others (answer.All reasons) =
     RequestsBeside beside others requested.All × AreReasons others (map reading_of reasons.items)
 
 -- the answer for specs with these readings, beside some ref prefixes
-pub record IsAnswerBeside (beside : List (List ℕ)) (g : List Reading) (a : Answer) : Type 0 where
+pub record IsAnswer (beside : List (List ℕ)) (g : List Reading) (a : Answer) : Type 0 where
   pub others : List Reading
   pub are : AreOthers g others
   pub whole : List (List ℕ)
   pub is_whole : IsWhole g others whole
   pub answers : AnswersFor (beside ++ whole) others a
-
--- the answer for the specs alone
-abbrev pub IsAnswer : List Reading → Answer → Type 0
-IsAnswer g a = IsAnswerBeside [] g a
 
 -- the ref prefixes by which a ref with this name is asked for: `HEAD`, or a full name, is asked for by itself, as Git
 -- does; a partial name by its candidates, since it may be any of these; and no server has a ref with an invalid name
@@ -156,15 +152,12 @@ AddsAnswer n answer.Nothing form old new = AddsNothing form old new
 AddsAnswer n (answer.Listed list) form old new = AddsRequests n form (map bstring_bytes list.items) old new
 AddsAnswer n (answer.All reasons) form old new = AddsWhole n form (map reading_of reasons.items) old new
 
--- the results grew by the answer for specs with these readings
-abbrev pub AddsPrefixes : Notation → Form → List Reading → List ℕ → List ℕ → Type 0
-AddsPrefixes n form g old new = (found : Answer) × IsAnswer g found × AddsAnswer n found form old new
+-- the results grew by the answer for specs with these readings, beside some ref prefixes
+abbrev pub AddsPrefixes : List (List ℕ) → Notation → Form → List Reading → List ℕ → List ℕ → Type 0
+AddsPrefixes beside n form g old new = (found : Answer) × IsAnswer beside g found × AddsAnswer n found form old new
 
--- the results grew by the answer for them and what is requested beside them
-pub record AddsBeside (names : List (List ℕ)) (tags : Bool) (n : Notation) (form : Form) (g : List Reading) (old new :
-    List ℕ) : Type 0 where
-  pub beside : List (List ℕ)
-  pub are : AreBeside names tags beside
-  pub found : Answer
-  pub answers : IsAnswerBeside beside g found
-  pub reported : AddsAnswer n found form old new
+-- the same beside what is requested by names and for tags
+abbrev pub AddsBeside : (names : List (List ℕ)) (tags : Bool) → Notation → Form → List Reading → List ℕ → List ℕ
+    → Type 0
+AddsBeside names tags n form g old new =
+    (beside : List (List ℕ)) × AreBeside names tags beside × AddsPrefixes beside n form g old new

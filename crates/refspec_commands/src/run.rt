@@ -13,7 +13,7 @@ ghost use Rattle.refspec_commands.specs.Warnings.{ShowsCheck};
 use crate::checking::{self, Question};
 use crate::fates::report_why;
 use crate::prefetches::report_prefetches;
-use crate::prefixes::answer::answer_beside;
+use crate::prefixes::answer::answer_to;
 use crate::prefixes::beside::beside_of;
 use crate::prefixes::report::{Notation, report_answer};
 use crate::renames::report_renames;
@@ -228,7 +228,7 @@ fn report_found(
         Command::Why => report_why(alloc, task, specs.as_slice(), report),
         _ => {
             let beside = beside_of(alloc, call)?;
-            let answer = answer_beside(alloc, specs.as_slice(), beside)?;
+            let answer = answer_to(alloc, specs.as_slice(), beside)?;
             report_answer(alloc, notation_of(call), &answer, report)?;
             Ok(false)
         }

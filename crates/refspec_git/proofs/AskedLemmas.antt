@@ -21,7 +21,7 @@ use Rattle.refspec_git.specs.declared.answer.Answer.TheVariants as answer
 use Rattle.refspec_git.specs.declared.specs.Specs.{Specs}
 use Rattle.refspec_git.specs.Answers.{IsReport}
 use Rattle.refspec_git.specs.Asked.{AnswersPrefixes, AreAskedTexts, AreConfiguredTexts, AreMergedOrHead, AreMergedTexts}
-use Rattle.refspec_git.specs.Asked.{ReportsAsked, notation_of, unwritten}
+use Rattle.refspec_git.specs.Asked.{ReportsAsked, head_of, notation_of, unwritten}
 use Rattle.refspec_git.specs.Fetch.{RefusesTexts, merged_name}
 use Rattle.refspec_git.specs.Wanted.{AreSpecsOf, all_tags}
 use Rattle.refspec_git.proofs.AnswerLemmas.{filled}
@@ -106,11 +106,12 @@ pub tags_left : (old : List Given) (b : Bool) → false ≡ b → old ≡ old ++
 tags_left old b is = sym (append-nil old) ∙ ap (λ c. old ++ cond c (unwritten all_tags ∷ []) []) is
 
 -- the prefixes for specs, or the refused texts, were reported
-pub prefixes_shown : (n : Notation) (s : Specs) (texts read : List Text) (g : List Reading) (found : Prefixes)
+pub prefixes_shown : (beside : List (List ℕ)) (n : Notation) (s : Specs) (texts read : List Text) (g : List Reading)
+    (found : Prefixes)
     (old mid new : Report) → AreAskedTexts s (map given_of texts) → read ≡ texts
-    → AreRead (map said (map given_of read)) g → mid ≡ old → IsAnswer g found
-    → AddsAnswer n found mid.form mid.results new.results → ReportsAsked n s 0 old new
-prefixes_shown n s texts read g found old mid new asked same are kept is adds = (
+    → AreRead (map said (map given_of read)) g → mid ≡ old → IsAnswer beside g found
+    → AddsAnswer n found mid.form mid.results new.results → ReportsAsked beside n s 0 old new
+prefixes_shown beside n s texts read g found old mid new asked same are kept is adds = (
   map given_of texts,
   asked,
   inl (
@@ -127,10 +128,10 @@ prefixes_shown n s texts read g found old mid new asked same are kept is adds = 
   ),
 )
 
-pub refused_shown : (n : Notation) (s : Specs) (texts read : List Text) (old new : Report)
+pub refused_shown : (beside : List (List ℕ)) (n : Notation) (s : Specs) (texts read : List Text) (old new : Report)
     → AreAskedTexts s (map given_of texts) → read ≡ texts → RefusesTexts (map given_of read) old new
-    → ReportsAsked n s 1 old new
-refused_shown n s texts read old new asked same refuses = (
+    → ReportsAsked beside n s 1 old new
+refused_shown beside n s texts read old new asked same refuses = (
   map given_of texts,
   asked,
   inr (refl, subst (λ (l : List Text). RefusesTexts (map given_of l) old new) same refuses),
@@ -139,17 +140,19 @@ refused_shown n s texts read old new asked same refuses = (
 -- a report answers a request, if it is that on the prefixes of its specs
 pub prefixes_reported : (r : Repository) (request : Request) (choice : Choice) (s : Specs) (n : Notation)
     (old new : DeclaredReport) (status : ℕ) (a : Answer) → AreSpecsOf r choice s → n ≡ notation_of request.patterns
-    → report_of old ≡ filled request.form [] [] → ReportsAsked n s status (report_of old) (report_of new)
+    → report_of old ≡ filled request.form [] [] → ReportsAsked (head_of request.head) n s status (report_of old)
+    (report_of new)
     → IsReport new status a → AnswersPrefixes r request choice a
 prefixes_reported r request choice s n old new status (answer.Asks lines) are written empty reports is = absurd is
 prefixes_reported r request choice s n old new status (answer.Reports output) are written empty reports is = record {
   asked = s;
   report = report_of new;
   specs = are;
-  reports = subst (λ k. ReportsAsked (notation_of request.patterns) s k (filled request.form [] []) (report_of new))
+  reports = subst (λ k. ReportsAsked (head_of request.head) (notation_of request.patterns) s k
+      (filled request.form [] []) (report_of new))
       (sym is.2)
-      (subst (λ m. ReportsAsked m s status (filled request.form [] []) (report_of new)) written
-      (subst (λ p. ReportsAsked n s status p (report_of new)) empty reports));
+      (subst (λ m. ReportsAsked (head_of request.head) m s status (filled request.form [] []) (report_of new)) written
+      (subst (λ p. ReportsAsked (head_of request.head) n s status p (report_of new)) empty reports));
   results = ap (λ v. v.items) is.0;
   messages = ap (λ v. v.items) is.1;
 }

@@ -63,27 +63,32 @@ abbrev pub AreAskedTexts : Specs → List Given → Type 0
 AreAskedTexts s texts = (named : List Given) × AreNamedTexts s named
     × (texts ≡ named ++ cond (asks_tags s.tags) (unwritten all_tags ∷ []) [])
 
--- the prefixes for specs were reported
-pub record ReportsPrefixes (n : Notation) (texts : List Given) (old new : Report) : Type 0 where
+-- what is asked for beside the specs: `HEAD`, if the request asks for that
+abbrev pub head_of : (head : Bool) → List (List ℕ)
+head_of head = cond head (codes "HEAD" ∷ []) []
+
+-- the prefixes for specs, and some beside these, were reported
+pub record ReportsPrefixes (beside : List (List ℕ)) (n : Notation) (texts : List Given) (old new : Report) :
+    Type 0 where
   pub g : List Reading
   pub read : AreRead (map said texts) g
-  pub reported : AddsPrefixes n old.form g old.results new.results
+  pub reported : AddsPrefixes beside n old.form g old.results new.results
 
 -- how they are written: as patterns if the request asks for these
 abbrev pub notation_of : Bool → Notation
 notation_of patterns = cond patterns notation.Pattern notation.Argument
 
 -- the prefixes that a client asks with for these specs, with status 0; or with status 1 only the specs that are refused
-abbrev pub ReportsAsked : Notation → Specs → ℕ → Report → Report → Type 0
-ReportsAsked n s status old new = (texts : List Given) × AreAskedTexts s texts
-    × (((status ≡ 0) × ReportsPrefixes n texts old new) ⊎ ((status ≡ 1) × RefusesTexts texts old new))
+abbrev pub ReportsAsked : List (List ℕ) → Notation → Specs → ℕ → Report → Report → Type 0
+ReportsAsked beside n s status old new = (texts : List Given) × AreAskedTexts s texts
+    × (((status ≡ 0) × ReportsPrefixes beside n texts old new) ⊎ ((status ≡ 1) × RefusesTexts texts old new))
 
 -- a request for the prefixes of a remote ends with this report
 pub record IsPrefixes (r : Repository) (request : Request) (choice : Choice) (output : Output) : Type 0 where
   pub asked : Specs
   pub report : Report
   pub specs : AreSpecsOf r choice asked
-  pub reports : ReportsAsked (notation_of request.patterns) asked output.status
+  pub reports : ReportsAsked (head_of request.head) (notation_of request.patterns) asked output.status
       (record { form = request.form; results = []; messages = [] }) report
   pub results : output.results.items ≡ report.results
   pub messages : output.messages.items ≡ report.messages

@@ -1,14 +1,16 @@
 //! What `git refspec plan`, `git refspec stale` and `git refspec prefixes` report about a remote.
 
 ghost use Rattle.std.specs.Prelude.{◌≡◌, map, IfErr, IfOk};
+ghost use Rattle.bstr.specs.Owned.{bstring_bytes};
 ghost use Rattle.refspec_fetch.specs.Report.{report_of};
-ghost use Rattle.refspec_git.specs.Asked.{AnswersPrefixes, ReportsAsked, notation_of};
+ghost use Rattle.refspec_git.specs.Asked.{AnswersPrefixes, ReportsAsked, head_of, notation_of};
 ghost use Rattle.refspec_git.specs.Fetch.{AnswersFetch, ListsRefs, RefusesFetch, limit_of, subject_of};
 ghost use Rattle.refspec_git.specs.Wanted.{RefusesGiven};
 
 use crate::answer::{Answer, Machine, Stop, asks, reports};
 use crate::plan::{Fetch, report_on};
 use crate::specs::{Specs, asked_texts, mapping_specs, specs_in, specs_of};
+use bstr::BString;
 use refspec_commands::prefixes::answer::answer_to;
 use refspec_commands::prefixes::report::{Notation, report_answer};
 use refspec_fetch::question::{Subject, asks_stale};
@@ -106,7 +108,12 @@ pub fn report_prefixes<'a>(
 {
     let specs = specs_of(alloc, repository, choice)?;
     let notation = notation_of(request);
-    let asked = Asked { specs, notation };
+    let head = request.head;
+    let asked = Asked {
+        specs,
+        notation,
+        head,
+    };
     let mut report = Report::new(alloc, request.form);
     let status = report_asked(alloc, &asked, &mut report)?;
     Ok(reports(report, status))
@@ -128,6 +135,8 @@ fn notation_of(request: &Request<'_>) -> Notation
 struct Asked<'a> {
     specs: Specs<'a>,
     notation: Notation,
+    // It asks for `HEAD` too.
+    head: bool,
 }
 
 // Reports the prefixes that a client sends, or only the specs that are refused. Returns the exit status.
@@ -136,14 +145,26 @@ fn report_asked<'a>(
     asked: &'a Asked<'a>,
     report: &mut Report,
 ) -> Result<u8, AllocError>
-    ensures { IfOk result (λ status. ReportsAsked asked.now.notation asked.now.specs status
+    ensures { IfOk result (λ status. ReportsAsked (head_of asked.now.head) asked.now.notation asked.now.specs status
         (report_of report.old) (report_of report.new)) }
 {
     let texts = asked_texts(alloc, &asked.specs)?;
     let Some(specs) = specs_in(alloc, texts.as_slice(), report)? else {
         return Ok(1);
     };
-    let answer = answer_to(alloc, specs.as_slice())?;
+    let beside = beside_of(alloc, asked)?;
+    let answer = answer_to(alloc, specs.as_slice(), beside)?;
     report_answer(alloc, asked.notation, &answer, report)?;
     Ok(0)
+}
+
+// The ref prefix of `HEAD`, if a client asks for that too.
+fn beside_of(alloc: Global, asked: &Asked<'_>) -> Result<Vec<BString>, AllocError>
+    ensures { IfOk result (λ list. map bstring_bytes list.items ≡ head_of asked.now.head) }
+{
+    let mut list = Vec::new(alloc);
+    if asked.head {
+        list.push(BString::from_slice(alloc, b"HEAD")?)?;
+    }
+    Ok(list)
 }

@@ -48,13 +48,14 @@ switch_named name =
     (cond (bytes_eq name (codes "--verbose")) (Some switch.Verbose)
     (cond (bytes_eq name (codes "--push")) (Some switch.Push)
     (cond (bytes_eq name (codes "--patterns")) (Some switch.Patterns)
+    (cond (bytes_eq name (codes "--head")) (Some switch.Head)
     (cond (bytes_eq name (codes "--long")) (Some switch.Long)
     (cond (bytes_eq name (codes "--all")) (Some switch.All)
     (cond (bytes_eq name (codes "--prune")) (Some switch.Prune)
     (cond (bytes_eq name (codes "--no-warnings")) (Some switch.NoWarnings)
     (cond (bytes_eq name (codes "--strict")) (Some switch.Strict)
     (cond (bytes_eq name (codes "--help")) (Some switch.Manual)
-    (cond (bytes_eq name (codes "--version")) (Some switch.Version) None))))))))))
+    (cond (bytes_eq name (codes "--version")) (Some switch.Version) None)))))))))))
 
 -- and by their letters: z, v and h
 abbrev pub switch_lettered : ℕ → Option Switch
@@ -75,6 +76,7 @@ owner_of switch.Push = Some (codes "--push", command.Check)
 owner_of switch.NoWarnings = Some (codes "--no-warnings", command.Check)
 owner_of switch.Strict = Some (codes "--strict", command.Check)
 owner_of switch.Patterns = Some (codes "--patterns", command.Prefixes)
+owner_of switch.Head = Some (codes "--head", command.Prefixes)
 owner_of switch.Long = Some (codes "--long", command.Plan)
 owner_of switch.All = Some (codes "--all", command.Plan)
 owner_of switch.Prune = Some (codes "--prune", command.Plan)
@@ -266,6 +268,7 @@ pub record IsRequest (c : Call) (r : Request) : Type 0 where
   pub verbose : IsTrue r.verbose ↔ Contains c.given switch.Verbose
   pub push : IsTrue r.push ↔ Contains c.given switch.Push
   pub patterns : IsTrue r.patterns ↔ Contains c.given switch.Patterns
+  pub head : IsTrue r.head ↔ Contains c.given switch.Head
   pub long : IsTrue r.long ↔ Contains c.given switch.Long
   pub all : IsTrue r.all ↔ Contains c.given switch.All
   pub prune : IsTrue r.prune ↔ Contains c.given switch.Prune

@@ -134,7 +134,7 @@ synopses = codes "usage: git refspec check [-v] [--push] [--strict] [--no-warnin
     ++ (codes "   or: git refspec track <ref>...\n"
     ++ (codes "   or: git refspec upstream [<branch>...]\n"
     ++ (codes "   or: git refspec why <ref> [<remote>]\n"
-    ++ codes "   or: git refspec prefixes [--patterns] [<remote>] [<spec>...]\n")))))
+    ++ codes "   or: git refspec prefixes [--patterns] [--head] [<remote>] [<spec>...]\n")))))
 
 abbrev pub advice_of : Refusal → List Piece
 advice_of refusal.NoCommand = words synopses ∷ []

@@ -82,6 +82,8 @@ pub struct Request<'a> {
     pub push: bool,
     /// Write ref prefixes as patterns.
     pub patterns: bool,
+    /// Ask for `HEAD` too.
+    pub head: bool,
     /// Report each mapping of a plan with its spec, and not below it.
     pub long: bool,
     /// Report every conflict, and all that is left out.
@@ -124,6 +126,7 @@ enum Switch {
     Verbose,
     Push,
     Patterns,
+    Head,
     Long,
     All,
     Prune,
@@ -145,6 +148,7 @@ impl Switch {
             Switch::NoWarnings => Some(("--no-warnings", Subcommand::Check)),
             Switch::Strict => Some(("--strict", Subcommand::Check)),
             Switch::Patterns => Some(("--patterns", Subcommand::Prefixes)),
+            Switch::Head => Some(("--head", Subcommand::Prefixes)),
             Switch::Long => Some(("--long", Subcommand::Plan)),
             Switch::All => Some(("--all", Subcommand::Plan)),
             Switch::Prune => Some(("--prune", Subcommand::Plan)),
@@ -183,6 +187,8 @@ fn switch_named(name: &[u8]) -> Option<Switch>
         Some(Switch::Push)
     } else if name == b"--patterns".as_slice() {
         Some(Switch::Patterns)
+    } else if name == b"--head".as_slice() {
+        Some(Switch::Head)
     } else if name == b"--long".as_slice() {
         Some(Switch::Long)
     } else if name == b"--all".as_slice() {
@@ -620,6 +626,7 @@ fn request_of<'a>(
         verbose: options.has(Switch::Verbose),
         push: options.has(Switch::Push),
         patterns: options.has(Switch::Patterns),
+        head: options.has(Switch::Head),
         long: options.has(Switch::Long),
         all: options.has(Switch::All),
         prune: options.has(Switch::Prune),

@@ -8,7 +8,7 @@ pub const USAGE: &str =
    or: git refspec track <ref>...
    or: git refspec upstream [<branch>...]
    or: git refspec why <ref> [<remote>]
-   or: git refspec prefixes [--patterns] [<remote>] [<spec>...]
+   or: git refspec prefixes [--patterns] [--head] [<remote>] [<spec>...]
 ";
 
 /// What the commands and the options do, after the synopses.
@@ -29,6 +29,7 @@ pub const OPTIONS: &str = "
     --strict              check: exit with status 1 for a warning too
     --no-warnings         check: report what is refused, and no warnings
     --patterns            prefixes: write patterns for git ls-remote
+    --head                prefixes: ask for HEAD too
     --long                plan: show each mapping with its spec, and not below it
     --all                 plan: list every conflict and all that is left out, not the first 20
     --prune               plan: list the refs that git fetch --prune would delete too

@@ -264,6 +264,13 @@ fn refuses_other_options(rt: HostRuntime) {
             Err(Refusal::OptionElsewhere("--patterns", "prefixes"))
         )
     );
+    let arguments: [&[u8]; 2] = [b"--head", b"stale"];
+    assert!(rt;
+        matches!(
+            purpose_of(rt.alloc(), &arguments),
+            Err(Refusal::OptionElsewhere("--head", "prefixes"))
+        )
+    );
     let arguments: [&[u8]; 1] = [b"--json"];
     assert!(rt; matches!(purpose_of(rt.alloc(), &arguments), Err(Refusal::NoCommand)));
     let arguments: [&[u8]; 2] = [b"track", b"--remote"];
@@ -659,7 +666,7 @@ fn writes_the_messages_of_refusals(rt: HostRuntime) -> Result<(), Fail> {
         ),
         (
             Refusal::NoSuchOption(b"--x"),
-            "git refspec: there is no option --x\nusage: git refspec check [-v] [--push] [--strict] [--no-warnings] [<remote> | <spec>]...\n   or: git refspec plan [--long] [--all] [--prune] [--refmap <spec>]... [<remote>] [<spec>...]\n   or: git refspec stale [<remote>] [<spec>...]\n   or: git refspec track <ref>...\n   or: git refspec upstream [<branch>...]\n   or: git refspec why <ref> [<remote>]\n   or: git refspec prefixes [--patterns] [<remote>] [<spec>...]\n",
+            "git refspec: there is no option --x\nusage: git refspec check [-v] [--push] [--strict] [--no-warnings] [<remote> | <spec>]...\n   or: git refspec plan [--long] [--all] [--prune] [--refmap <spec>]... [<remote>] [<spec>...]\n   or: git refspec stale [<remote>] [<spec>...]\n   or: git refspec track <ref>...\n   or: git refspec upstream [<branch>...]\n   or: git refspec why <ref> [<remote>]\n   or: git refspec prefixes [--patterns] [--head] [<remote>] [<spec>...]\n",
         ),
     ];
     for (refusal, wanted) in &refusals {

@@ -641,7 +641,8 @@ pub enum RefPrefixes {
     All,
 }
 
-/// The ref prefixes to send to a server, so that it lists each ref that specs fetch. A push is refused.
+/// The ref prefixes to send to a server, so that it lists each ref that specs fetch. To follow tags, send `refs/tags/` too, and
+/// for a clone `HEAD`. A push is refused.
 ///
 /// ```
 /// use refspec::{prefixes, Operation, RefPrefixes, Spec};

@@ -257,9 +257,9 @@ reasons list one = (
 pub reported : (prefixes : Vec BString Global) (why : Vec RefSpecRef Global)
     → map bstring_bytes prefixes.items ≡ codes "refs/" ∷ [] → map reading_of why.items ≡ by_bracket ∷ []
     → AreReasons (every ∷ by_bracket ∷ []) (by_bracket ∷ [])
-    → AddsPrefixes notation.Argument form.Lines (every ∷ all_refs ∷ no_dev ∷ []) [] (codes "ref-prefix refs/\n")
-    × AddsPrefixes notation.Pattern form.Lines (every ∷ by_bracket ∷ []) [] (codes "*\n")
-    × AddsPrefixes notation.Argument form.Lines (no_dev ∷ []) [] (codes "(nothing)\n")
+    → AddsPrefixes [] notation.Argument form.Lines (every ∷ all_refs ∷ no_dev ∷ []) [] (codes "ref-prefix refs/\n")
+    × AddsPrefixes [] notation.Pattern form.Lines (every ∷ by_bracket ∷ []) [] (codes "*\n")
+    × AddsPrefixes [] notation.Argument form.Lines (no_dev ∷ []) [] (codes "(nothing)\n")
 reported prefixes why one one_why are = (
   (
     answer.Listed prefixes,
@@ -308,7 +308,7 @@ reported prefixes why one one_why are = (
 
 -- all refs aren't reported as no request, and aren't the answer for branches
 pub not_reported : (list : Vec BString Global) → map bstring_bytes list.items ≡ codes "refs/heads/" ∷ []
-    → ¬ (AddsPrefixes notation.Argument form.Lines (by_bracket ∷ []) [] (codes "(nothing)\n"))
+    → ¬ (AddsPrefixes [] notation.Argument form.Lines (by_bracket ∷ []) [] (codes "(nothing)\n"))
     × ((why : Vec RefSpecRef Global) → ¬ (AnswersFor [] (every ∷ []) (answer.All why)))
 not_reported list one = (all_as_nothing, λ why asked. (of_group list one).4 asked.0)
   where
@@ -324,7 +324,7 @@ not_reported list one = (all_as_nothing, λ why asked. (of_group list one).4 ask
     all_words [] adds = other_words.0 adds
     all_words (r ∷ g) adds = other_words.0 adds
 
-    all_as_nothing : ¬ (AddsPrefixes notation.Argument form.Lines (by_bracket ∷ []) [] (codes "(nothing)\n"))
+    all_as_nothing : ¬ (AddsPrefixes [] notation.Argument form.Lines (by_bracket ∷ []) [] (codes "(nothing)\n"))
     all_as_nothing (answer.Nothing, asked, adds) = none_listed asked.others asked.answers.0 asked.are asked.answers.1
     all_as_nothing (answer.Listed l, asked, adds) = none_listed asked.others asked.answers.0.0 asked.are
         asked.answers.0.1

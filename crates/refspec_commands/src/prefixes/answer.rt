@@ -3,7 +3,7 @@
 ghost use Rattle.std.specs.Prelude.{map, IfOk, MatchBool};
 ghost use Rattle.bstr.specs.Owned.{bstring_bytes};
 ghost use Rattle.gix_refspec.specs.Views.Spec.{reading_of};
-ghost use Rattle.refspec_commands.specs.Prefixes.{AreOthers, AreReasons, CanBeListed, IsAnswer, IsAnswerBeside};
+ghost use Rattle.refspec_commands.specs.Prefixes.{AreOthers, AreReasons, CanBeListed, IsAnswer};
 ghost use Rattle.refspec_commands.specs.Prefixes.{IsReason, IsWhole, TakesWhole};
 
 use bstr::BString;
@@ -23,20 +23,13 @@ pub enum Answer<'a> {
     All(Vec<RefSpecRef<'a>>),
 }
 
-/// The answer for specs. Fails if memory runs out.
-pub fn answer_to<'a>(alloc: Global, specs: &[RefSpecRef<'a>]) -> Result<Answer<'a>, AllocError>
-    ensures { IfOk result (IsAnswer (map reading_of specs.now)) }
-{
-    answer_beside(alloc, specs, Vec::new(alloc))
-}
-
 /// The answer for specs and for ref prefixes beside theirs, which come first. Fails if memory runs out.
-pub fn answer_beside<'a>(
+pub fn answer_to<'a>(
     alloc: Global,
     specs: &[RefSpecRef<'a>],
     beside: Vec<BString>,
 ) -> Result<Answer<'a>, AllocError>
-    ensures { IfOk result (IsAnswerBeside (map bstring_bytes beside.items) (map reading_of specs.now)) }
+    ensures { IfOk result (IsAnswer (map bstring_bytes beside.items) (map reading_of specs.now)) }
 {
     let others = others_of(alloc, specs)?;
     let mut whole = whole_of(alloc, specs, others.as_slice())?;

@@ -3,7 +3,7 @@ use Rattle.std.proofs.Common.{◌≡◌, [], ◌∷◌, codes, false, inl, inr, 
 use Rattle.gix_refspec.proofs.facts.RefNameFacts.{no_ref_names, ref_names}
 use Rattle.refspec_commands.specs.declared.prefixes.report.Notation.TheVariants as notation
 use Rattle.refspec_fetch.specs.declared.question.Tags.TheVariants as tags
-use Rattle.refspec_git.specs.Asked.{AreConfiguredTexts, AreMergedTexts, asks_tags, notation_of, unwritten}
+use Rattle.refspec_git.specs.Asked.{AreConfiguredTexts, AreMergedTexts, asks_tags, head_of, notation_of, unwritten}
 
 -- a server is asked for the full names of merged refs, and `HEAD`, but for no partial name
 pub merged : AreMergedTexts (codes "refs/heads/main" ∷ (codes "main" ∷ ([] ∷ [])))
@@ -27,3 +27,7 @@ asked_for = (refl, refl)
 -- patterns are asked for by an option
 pub written : (notation_of true ≡ notation.Pattern) × (notation_of false ≡ notation.Argument)
 written = (refl, refl)
+
+-- `HEAD` is asked for by an option
+pub head : (head_of true ≡ codes "HEAD" ∷ []) × (head_of false ≡ [])
+head = (refl, refl)

@@ -11,7 +11,7 @@ use Rattle.refspec_fetch.specs.Report.{report_of}
 use Rattle.refspec_commands.specs.declared.prefixes.report.Notation.{Notation}
 use Rattle.refspec_commands.specs.Locals.{AddsWhy}
 use Rattle.refspec_commands.specs.Prefetches.{AddsPrefetches}
-use Rattle.refspec_commands.specs.Prefixes.{AddsAnswer, IsAnswerBeside}
+use Rattle.refspec_commands.specs.Prefixes.{AddsAnswer, IsAnswer}
 use Rattle.refspec_commands.specs.Upstreams.{AddsUpstreams}
 use Rattle.refspec_commands.proofs.OutputLemmas.{AddsFound-fetch, AddsFound-prefetch, AddsFound-prefixes}
 use Rattle.refspec_commands.proofs.OutputLemmas.{AddsFound-track, AddsFound-upstream, AddsFound-why}
@@ -65,12 +65,12 @@ returns-in_ok-report_answer-in_default c =
     let answer = c.in_ok-answer-in_default.answer in
     let beside = map bstring_bytes c.in_ok-beside-in_default.beside.items in
     AddsFound-prefixes task.call.now.command task old.form _ _ _ _ _ c.in_default.not-Plan c.in_default.not-Stale
-    c.in_default.not-Track c.in_default.not-Upstream c.in_default.not-Prefetch c.in_default.not-Why (record {
-      beside = beside;
-      are = c.in_ok-beside-in_default.ensures;
-      found = answer;
-      answers = subst (λ (l : List RefSpecRef). IsAnswerBeside beside (map reading_of l) answer)
-          c.as_slice-in_default.ensures.value c.in_ok-answer-in_default.ensures;
-      reported = subst (λ (n : Notation). AddsAnswer n answer old.form old.results.items new.results.items)
-          c.notation_of.ensures c.in_ok-report_answer-in_default.ensures;
-    })
+    c.in_default.not-Track c.in_default.not-Upstream c.in_default.not-Prefetch c.in_default.not-Why (
+      beside,
+      c.in_ok-beside-in_default.ensures,
+      answer,
+      subst (λ (l : List RefSpecRef). IsAnswer beside (map reading_of l) answer) c.as_slice-in_default.ensures.value
+          c.in_ok-answer-in_default.ensures,
+      subst (λ (n : Notation). AddsAnswer n answer old.form old.results.items new.results.items)
+          c.notation_of.ensures c.in_ok-report_answer-in_default.ensures,
+    )

@@ -6,7 +6,7 @@ use Rattle.gix_refspec.specs.Views.Spec.{reading_of}
 use Rattle.gix_refspec_text.specs.declared.spec.RefSpecRef.{RefSpecRef}
 use Rattle.refspec_commands.specs.Prefixes.{AreReasons}
 use Rattle.refspec_commands.proofs.PrefixLemmas.{RequestsBeside-whole}
-use Rattle.refspec_commands.proofs.prefixes.answer.answer_beside.Goals as goal
+use Rattle.refspec_commands.proofs.prefixes.answer.answer_to.Goals as goal
 
 pub whole_of-requires : goal.whole_of-requires
 whole_of-requires c = rw c.as_slice.ensures.value c.in_ok-others.ensures
