@@ -87,13 +87,14 @@ pub struct Call<'a> {
     pub specs: Vec<&'a str>,
     /// The tracking refs among the arguments; for `why` the refs of the remote that it is asked about.
     pub refs: Vec<&'a str>,
-    /// The refs that the current branch merges; for `upstream` those whose upstreams it shows.
+    /// The refs that the current branch merges; for `upstream` those whose upstreams it shows, and for `prefixes` those
+    /// that it asks for, with `HEAD`.
     pub merges: Vec<BStr<'a>>,
     /// The name of the remote that `rename` renames.
     pub remote: &'a str,
     /// Its new name.
     pub new_remote: &'a str,
-    /// A plan fetches all tags too.
+    /// A plan fetches all tags too; `prefixes` asks for them.
     pub tags: bool,
     /// A plan reports the local refs that a pruning fetch deletes too.
     pub prune: bool,
