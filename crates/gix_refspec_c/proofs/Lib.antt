@@ -3,6 +3,7 @@ pub mod SingleLemmas
 pub mod GroupLemmas
 pub mod LayoutLemmas
 pub mod MatchingLemmas
+pub mod KeptLemmas
 pub mod RefsLemmas
 pub mod NamingLemmas
 pub mod BufferFacts

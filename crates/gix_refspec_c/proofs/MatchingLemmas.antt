@@ -1,13 +1,13 @@
 -- Destinations that are ids, and what is told of mappings one after another.
 use Rattle.std.proofs.Common.{◌≡◌, ℕ, ◌+◌, ◌<◌, IfErr, IfOk, take, get_or, List, [], ◌∷◌, ◌++◌, length, map}
-use Rattle.std.proofs.Common.{Result, Ok, Err, refl, sym, ap, subst, ◌∙◌, inl}
+use Rattle.std.proofs.Common.{Result, Ok, Err, sym, ap, subst, ◌∙◌, inl, inr}
 use Rattle.gix_refspec.specs.Specs.Reading.{Reading}
 use Rattle.std.specs.List.{AllZip}
 use Rattle.gix_refspec_text.specs.declared.parsing.Operation.TheVariants.{Fetch}
 use Rattle.gix_refspec.specs.Specs.Grammar.{Reads}
 use Rattle.gix_refspec.specs.Matching.Match.{Ref}
 use Rattle.gix_refspec.specs.Matching.Hits.{AreKeptForward, AreKeptBackward}
-use Rattle.gix_refspec_c.specs.declared.listing.Listing.{Listing}
+use Rattle.gix_refspec_c.specs.declared.kept.Kept.{Kept}
 use Rattle.gix_refspec_c.specs.declared.matching.Direction.{Direction}
 use Rattle.gix_refspec_c.specs.declared.matching.Direction.TheVariants.{Forward, Backward}
 use Rattle.gix_refspec_c.specs.declared.failure.Failure.{Failure}
@@ -15,7 +15,8 @@ use Rattle.gix_refspec_c.specs.declared.failure.Failure.TheVariants as failure
 use Rattle.std.proofs.lemmas.List.{append_assoc, map-append, take_more}
 use Rattle.gix_refspec.specs.Matching.Mappings.{Mapped}
 use Rattle.gix_refspec_c.specs.declared.listing.MappingOut.{MappingOut}
-use Rattle.gix_refspec_c.specs.Mapping.{Entry, IsNotWritten, LacksAll, Room, Describes, backward_entry, forward_entry}
+use Rattle.gix_refspec_c.specs.Mapping.{Entry, LacksAll, LacksRoom, Room, Describes, backward_entry, forward_entry}
+use Rattle.gix_refspec_c.specs.Kept.{entries_of}
 use Rattle.gix_refspec_c.specs.Mapping.{text_of, described_at, described_by}
 use Rattle.gix_refspec_c.specs.Matching.{AreMatched, Keeps, Lists, NamesSuffice, entry_of, nameless}
 use Rattle.gix_refspec_c.proofs.LayoutLemmas.{laid_out_more}
@@ -48,62 +49,40 @@ entries_more_behind {X} es f xs slice k d same below =
     ∙ ap (λ l. es ++ l) (map-append f (take k slice) (get_or slice k d ∷ []))
     ∙ sym (append_assoc es (map f (take k slice)) (f (get_or slice k d) ∷ [])))
 
--- a listing that doesn't fit
-pub no_room : (Is : List Entry → Type 0) (Why : Failure → Type 0) (es : List Entry) (structs : List MappingOut)
-    (text : List ℕ) (before after : Room) (r : Result (Unit {0}) Failure) → Is es → Describes es structs text
-    → IfErr r (λ f. (f ≡ failure.TooSmall) × IsNotWritten structs text before after)
+-- a match whose mappings aren't written
+pub lacks_all : (Is : List Entry → Type 0) (Why : Failure → Type 0) (es : List Entry) (before after : Room)
+    (r : Result (Unit {0}) Failure) → Is es → Why failure.NoMemory → IfErr r (LacksRoom es before after)
     → IfErr r (LacksAll Is Why before after)
-no_room Is Why es structs text before after (Ok u) is describes small = tt
-no_room Is Why es structs text before after (Err f) is describes small =
-    inl (small.0, es, is, record { structs = structs; text = text; describes = describes; not_write = small.1 })
+lacks_all Is Why es before after (Ok u) is memory lacks = tt
+lacks_all Is Why es before after (Err f) is memory (inl small) = inl (small.0, es, is, small.1)
+lacks_all Is Why es before after (Err f) is memory (inr none) = inr (subst Why (sym none.0) memory, none.1)
 
--- what is listed from left to right are the mappings that the group keeps
-pub lists_forward : (d : Direction) (group g : List Reading) (refs : List Ref) (kept : List Mapped)
-    (r : Result Listing Failure) → d ≡ Forward → g ≡ group → AreKeptForward group refs kept
-    → IfOk r (λ l. Describes (map (forward_entry g) kept) l.mappings.items l.text.items)
-    → IfOk r (λ l. Lists d group refs l.mappings.items l.text.items)
-lists_forward d group g refs kept (Err f) is whole keeps describes = tt
-lists_forward d group g refs kept (Ok l) is whole keeps describes =
-    let lists : Lists Forward group refs l.mappings.items l.text.items =
-    record {
-      kept = kept;
-      keeps = keeps;
-      describes = subst (λ (specs : List Reading). Describes (map (forward_entry specs) kept) l.mappings.items
-          l.text.items) whole describes;
-    } in
-    subst (λ (e : Direction). Lists e group refs l.mappings.items l.text.items) (sym is) lists
+-- what is kept from left to right are the mappings that the group keeps
+pub lists_forward : (d : Direction) (group g : List Reading) (refs : List Ref) (ms : List Mapped) → d ≡ Forward
+    → g ≡ group → AreKeptForward group refs ms → Lists d group refs (map (forward_entry g) ms)
+lists_forward d group g refs ms is whole keeps =
+    let lists : Lists Forward group refs (map (forward_entry g) ms) =
+    record { kept = ms; keeps = keeps; are = ap (λ specs. map (forward_entry specs) ms) whole } in
+    subst (λ (e : Direction). Lists e group refs (map (forward_entry g) ms)) (sym is) lists
 
 -- and so it is from right to left
-pub lists_backward : (d : Direction) (group g : List Reading) (refs : List Ref) (kept : List Mapped)
-    (r : Result Listing Failure) → d ≡ Backward → g ≡ group → AreKeptBackward group refs kept
-    → IfOk r (λ l. Describes (map (backward_entry g) kept) l.mappings.items l.text.items)
-    → IfOk r (λ l. Lists d group refs l.mappings.items l.text.items)
-lists_backward d group g refs kept (Err f) is whole keeps describes = tt
-lists_backward d group g refs kept (Ok l) is whole keeps describes =
-    let lists : Lists Backward group refs l.mappings.items l.text.items =
-    record {
-      kept = kept;
-      keeps = keeps;
-      describes = subst (λ (specs : List Reading). Describes (map (backward_entry specs) kept) l.mappings.items
-          l.text.items) whole describes;
-    } in
-    subst (λ (e : Direction). Lists e group refs l.mappings.items l.text.items) (sym is) lists
+pub lists_backward : (d : Direction) (group g : List Reading) (refs : List Ref) (ms : List Mapped) → d ≡ Backward
+    → g ≡ group → AreKeptBackward group refs ms → Lists d group refs (map (backward_entry g) ms)
+lists_backward d group g refs ms is whole keeps =
+    let lists : Lists Backward group refs (map (backward_entry g) ms) =
+    record { kept = ms; keeps = keeps; are = ap (λ specs. map (backward_entry specs) ms) whole } in
+    subst (λ (e : Direction). Lists e group refs (map (backward_entry g) ms)) (sym is) lists
 
 -- if names decide, what a group keeps over refs with these names is what is matched
 pub lists_matched : (d : Direction) (texts names : List (List ℕ)) (group : List Reading) (refs : List Ref)
-    (r : Result Listing Failure) → AllZip (Reads Fetch) texts group → NamesSuffice d group → refs ≡ map nameless names
-    → IfOk r (λ l. Lists d group refs l.mappings.items l.text.items)
-    → IfOk r (λ l. (es : List Entry) × AreMatched d texts names es × Describes es l.mappings.items l.text.items)
+    (r : Result Kept Failure) → AllZip (Reads Fetch) texts group → NamesSuffice d group → refs ≡ map nameless names
+    → IfOk r (λ k. Lists d group refs (entries_of k)) → IfOk r (λ k. AreMatched d texts names (entries_of k))
 lists_matched d texts names group refs (Err f) read suffice same lists = tt
-lists_matched d texts names group refs (Ok l) read suffice same lists = (
-  map (entry_of d group) lists.kept,
-  record {
-    group = group;
-    read = read;
-    by_names = suffice;
-    kept = lists.kept;
-    keeps = subst (λ (rs : List Ref). Keeps d group rs lists.kept) same lists.keeps;
-    are = refl;
-  },
-  lists.describes,
-)
+lists_matched d texts names group refs (Ok k) read suffice same lists = record {
+  group = group;
+  read = read;
+  by_names = suffice;
+  kept = lists.kept;
+  keeps = subst (λ (rs : List Ref). Keeps d group rs lists.kept) same lists.keeps;
+  are = lists.are;
+}

@@ -4,15 +4,18 @@ use Rattle.std.specs.List.{AllZip}
 use Rattle.std.proofs.lemmas.List.{get_or-map, length-map}
 use Rattle.gix_refspec_text.specs.declared.spec.RefSpecRef.{RefSpecRef}
 use Rattle.gix_refspec.specs.Specs.Reading.{Reading}
+use Rattle.gix_refspec.specs.Matching.Match.{Ref}
 use Rattle.gix_refspec.specs.Views.Spec.{reading_of}
 use Rattle.gix_refspec_c.specs.declared.failure.Failure.{Failure}
 use Rattle.gix_refspec_c.specs.declared.failure.Failure.TheVariants as failure
 use Rattle.gix_refspec_c.specs.declared.matching.Direction.{Direction}
 use Rattle.gix_refspec_c.specs.declared.refs.SpecIn.{SpecIn}
 use Rattle.gix_refspec_c.specs.declared.refs.RefIn.{RefIn}
-use Rattle.gix_refspec_c.specs.Refs.{AreUnmatchedRefs, out_of_memory, bad_id, HasBadId, IsBadSpec, IsFirstBadSpec}
-use Rattle.gix_refspec_c.specs.Refs.{ReadsAs, RefText, SomeBadId, SpecText, no_ref_text, no_spec_text, ref_text}
-use Rattle.gix_refspec_c.specs.Refs.{spec_text}
+use Rattle.gix_refspec_c.specs.Mapping.{Entry}
+use Rattle.gix_refspec_c.specs.Matching.{Lists}
+use Rattle.gix_refspec_c.specs.Refs.{AreInput, AreMatchedRefs, AreUnmatchedRefs, out_of_memory, bad_id, HasBadId}
+use Rattle.gix_refspec_c.specs.Refs.{IsBadSpec, IsFirstBadSpec, ReadsAs, RefText, SomeBadId, SpecText, no_ref_text}
+use Rattle.gix_refspec_c.specs.Refs.{no_spec_text, ref_text, spec_text}
 
 -- the first spec that isn't read
 pub spec_unread : (specs : List SpecIn) (k : ℕ) (d : SpecIn) (old : List RefSpecRef) (f : Failure) → k < length specs
@@ -41,3 +44,18 @@ pub refs_unread : (d : Direction) (specs : List SpecText) (texts : List RefText)
     → AreUnmatchedRefs d specs texts f
 refs_unread d specs texts f group read (inl memory) = out_of_memory memory
 refs_unread d specs texts f group read (inr bad) = bad_id group read bad.0 bad.1
+
+-- what a group keeps over refs is what is matched
+pub matched_refs : (d : Direction) (specs : List SpecText) (texts : List RefText) (group : List Reading)
+    (refs : List Ref) (es : List Entry) → AreInput d specs texts group refs → Lists d group refs es
+    → AreMatchedRefs d specs texts es
+matched_refs d specs texts group refs es input lists = record {
+  group = group;
+  read = input.read;
+  refs = refs;
+  are_refs = input.are_refs;
+  targets = input.targets;
+  kept = lists.kept;
+  keeps = lists.keeps;
+  are = lists.are;
+}

@@ -6,6 +6,7 @@ pub mod Explanation
 pub mod Group
 pub mod Layout
 pub mod Mapping
+pub mod Kept
 pub mod Matching
 pub mod Planning
 pub mod Stale

@@ -202,6 +202,11 @@ pub record HasNoRoom (es : List Entry) (before after : Room) : Type 0 where
   pub describes : Describes es structs text
   pub not_write : IsNotWritten structs text before after
 
+-- why a caller gets none of the entries: a slice is too small; or no memory can hold their texts, and all is unchanged
+abbrev pub LacksRoom : List Entry → Room → Room → Failure → Type 0
+LacksRoom es before after f = ((f ≡ failure.TooSmall) × HasNoRoom es before after)
+    ⊎ ((f ≡ failure.NoMemory) × (after ≡ before))
+
 -- why a caller gets no mappings: a slice is too small for entries of which Is holds; or Why holds of the failure, and
 -- all is unchanged
 abbrev pub LacksAll : (List Entry → Type 0) → (Failure → Type 0) → Room → Room → Failure → Type 0

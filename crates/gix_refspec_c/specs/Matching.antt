@@ -13,8 +13,7 @@ use Rattle.gix_refspec_c.specs.declared.failure.Failure.TheVariants as failure
 use Rattle.gix_refspec_c.specs.declared.matching.Direction.{Direction}
 use Rattle.gix_refspec_c.specs.declared.matching.Direction.TheVariants.{Forward, Backward}
 use Rattle.gix_refspec_c.specs.Group.{AreUnread}
-use Rattle.gix_refspec_c.specs.declared.listing.MappingOut.{MappingOut}
-use Rattle.gix_refspec_c.specs.Mapping.{Describes, Entry, forward_entry, backward_entry}
+use Rattle.gix_refspec_c.specs.Mapping.{Entry, forward_entry, backward_entry}
 
 -- the number of a direction
 abbrev pub direction_code : Direction → ℕ
@@ -40,12 +39,11 @@ abbrev pub entry_of : Direction → List Reading → Mapped → Entry
 entry_of Forward g = forward_entry g
 entry_of Backward g = backward_entry g
 
--- the structs and the text describe the mappings that a group keeps over refs in a direction
-pub record Lists (d : Direction) (g : List Reading) (refs : List Ref) (structs : List MappingOut) (text : List ℕ) :
-    Type 0 where
+-- the entries are those of the mappings that a group keeps over refs in a direction
+pub record Lists (d : Direction) (g : List Reading) (refs : List Ref) (es : List Entry) : Type 0 where
   pub kept : List Mapped
   pub keeps : Keeps d g refs kept
-  pub describes : Describes (map (entry_of d g) kept) structs text
+  pub are : es ≡ map (entry_of d g) kept
 
 -- the texts are fetches, and these entries tell of the mappings that are kept of them over the names
 pub record AreMatched (d : Direction) (texts names : List (List ℕ)) (es : List Entry) : Type 0 where

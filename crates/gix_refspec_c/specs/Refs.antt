@@ -117,6 +117,13 @@ abbrev pub LacksTarget : Direction → List Reading → List RefText → Type 0
 LacksTarget Forward g texts = ⊥
 LacksTarget Backward g texts = ¬ (AsksForNoId g) × (list_all is_known texts ≡ false)
 
+-- the specs are read, each for its operation, and so are the ids of the refs, and targets are known where they count
+pub record AreInput (d : Direction) (specs : List SpecText) (texts : List RefText) (group : List Reading)
+    (refs : List Ref) : Type 0 where
+  pub read : AllZip ReadsAs specs group
+  pub are_refs : AllZip IsRefOf texts refs
+  pub targets : HasTargets d group texts
+
 -- the specs are read, each for its operation, and these entries are the mappings that are kept of them over the refs
 pub record AreMatchedRefs (d : Direction) (specs : List SpecText) (texts : List RefText) (es : List Entry) :
     Type 0 where

@@ -8,6 +8,7 @@
 pub mod explanation;
 pub mod failure;
 pub mod fates;
+pub mod kept;
 pub mod listing;
 pub mod locating;
 pub mod making;

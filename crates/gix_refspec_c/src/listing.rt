@@ -71,58 +71,6 @@ impl Listing {
         }
     }
 
-    /// Adds a mapping of a group from left to right.
-    pub(crate) fn add_forward(
-        &mut self,
-        alloc: Global,
-        group: &MatchGroup<'_>,
-        mapping: &Mapping<'_, '_>,
-    ) -> Result<(), Failure>
-        ensures text { OnOk result (self.new.text.items ≡ self.old.text.items ++
-            text_of (forward_entry (readings_of group.now) (mapped_of mapping.now))) }
-        ensures described { OnOk result (map described_by self.new.mappings.items ≡
-            map described_by self.old.mappings.items ++
-            described_at (length self.old.text.items) (forward_entry (readings_of group.now) (mapped_of mapping.now)) ∷ []) }
-        ensures err { IfErr result (λ f. f ≡ Failure.NoMemory) }
-    {
-        let id = match id_digits(alloc, &mapping.lhs) {
-            Ok(id) => id,
-            Err(_) => return Err(Failure::NoMemory),
-        };
-        let (has_destination, made) = match &mapping.rhs {
-            None => (0, b"".as_slice()),
-            Some(name) => (1, name.as_bstr().as_bytes()),
-        };
-        let numbers = numbers_of(group, mapping, has_destination);
-        self.add(numbers, id.as_bytes(), made)
-    }
-
-    /// Adds a mapping of a group from right to left.
-    pub(crate) fn add_backward(
-        &mut self,
-        alloc: Global,
-        group: &MatchGroup<'_>,
-        mapping: &Mapping<'_, '_>,
-    ) -> Result<(), Failure>
-        ensures text { OnOk result (self.new.text.items ≡ self.old.text.items ++
-            text_of (backward_entry (readings_of group.now) (mapped_of mapping.now))) }
-        ensures described { OnOk result (map described_by self.new.mappings.items ≡
-            map described_by self.old.mappings.items ++
-            described_at (length self.old.text.items) (backward_entry (readings_of group.now) (mapped_of mapping.now)) ∷ []) }
-        ensures err { IfErr result (λ f. f ≡ Failure.NoMemory) }
-    {
-        let id = match id_digits(alloc, &mapping.lhs) {
-            Ok(id) => id,
-            Err(_) => return Err(Failure::NoMemory),
-        };
-        let made = match &mapping.lhs {
-            SourceRef::FullName(name) => name.as_bstr().as_bytes(),
-            SourceRef::ObjectId(_) => id.as_bytes(),
-        };
-        let has_destination = if mapping.rhs.is_some() { 1 } else { 0 };
-        self.add(numbers_of(group, mapping, has_destination), b"", made)
-    }
-
     /// Adds an element with these numbers and texts.
     pub(crate) fn add(&mut self, numbers: Numbers, id: &[u8], made: &[u8]) -> Result<(), Failure>
         ensures text { OnOk result (self.new.text.items ≡ self.old.text.items ++ (id.now ++ made.now)) }
@@ -139,18 +87,7 @@ impl Listing {
         if self.text.extend_from_slice(made).is_err() {
             return Err(Failure::NoMemory);
         }
-        let described = MappingOut {
-            spec: numbers.spec,
-            item: numbers.item,
-            has_destination: numbers.has_destination,
-            forced: numbers.forced,
-            origin: numbers.origin,
-            verdict: numbers.verdict,
-            id_at,
-            id_len: id.len(),
-            made_at,
-            made_len: made.len(),
-        };
+        let described = struct_of(numbers, id_at, id.len(), made_at, made.len());
         match self.mappings.push(described) {
             Ok(()) => Ok(()),
             Err(_) => Err(Failure::NoMemory),
@@ -158,8 +95,36 @@ impl Listing {
     }
 }
 
-// The numbers of a mapping of a group in a match.
-fn numbers_of(group: &MatchGroup<'_>, mapping: &Mapping<'_, '_>, has_destination: u32) -> Numbers
+/// The struct with these numbers, and these offsets and lengths of texts.
+pub(crate) fn struct_of(
+    numbers: Numbers,
+    id_at: usize,
+    id_len: usize,
+    made_at: usize,
+    made_len: usize,
+) -> MappingOut
+    ensures { result ≡ record { spec = numbers.spec; item = numbers.item; has_destination = numbers.has_destination; forced = numbers.forced; origin = numbers.origin; verdict = numbers.verdict; id_at = id_at; id_len = id_len; made_at = made_at; made_len = made_len } }
+{
+    MappingOut {
+        spec: numbers.spec,
+        item: numbers.item,
+        has_destination: numbers.has_destination,
+        forced: numbers.forced,
+        origin: numbers.origin,
+        verdict: numbers.verdict,
+        id_at,
+        id_len,
+        made_at,
+        made_len,
+    }
+}
+
+/// The numbers of a mapping of a group in a match.
+pub(crate) fn numbers_of(
+    group: &MatchGroup<'_>,
+    mapping: &Mapping<'_, '_>,
+    has_destination: u32,
+) -> Numbers
     ensures { result ≡ record { spec = mapping.now.spec_index; item = number_of_index mapping.now.item_index; has_destination = has_destination; forced = forced_at (readings_of group.now) mapping.now.spec_index; origin = 0; verdict = 0 } }
 {
     Numbers {

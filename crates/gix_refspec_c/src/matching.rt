@@ -8,16 +8,18 @@ ghost use Rattle.gix_refspec.specs.Texts.ObjectId.{id_bytes};
 ghost use Rattle.gix_refspec.specs.Laws.Items.{AsksForNoId};
 ghost use Rattle.gix_refspec.specs.Views.Spec.{reading_of};
 ghost use Rattle.gix_refspec_c.specs.Group.{bytes_of};
-ghost use Rattle.gix_refspec_c.specs.Mapping.{Entry, HasAll, LacksAll, Room, Describes, backward_entry, forward_entry};
+ghost use Rattle.gix_refspec_c.specs.Kept.{entries_of};
+ghost use Rattle.gix_refspec_c.specs.Mapping.{Entry, HasAll, LacksAll, Room};
 ghost use Rattle.gix_refspec_c.specs.Matching.{AreMatched, AreUnmatched, Lists, NamesSuffice, direction_code, nameless};
 ghost use Rattle.gix_refspec_c.specs.Outcome.{Answers};
 
 use crate::explanation::Text;
 use crate::failure::{Failure, outcome_of};
-use crate::listing::{Listing, MappingOut, write_all};
+use crate::kept::{Kept, write_kept};
+use crate::listing::MappingOut;
 use crate::reading::read_all;
 use bstr::BStr;
-use gix_refspec::match_group::{Item, Mapping};
+use gix_refspec::match_group::Item;
 use gix_refspec::oid::{Kind, ObjectId};
 use gix_refspec::parsing::Operation;
 use gix_refspec::{MatchGroup, RefSpecRef, laws};
@@ -61,8 +63,9 @@ pub extern "C" fn gix_refspec_match(
         Some(direction) => direction,
         None => return Failure::NoOperation.number(),
     };
-    match listing_of(alloc, texts, names, direction) {
-        Ok(listing) => outcome_of(write_all(&listing, mappings, buffer, count, len)),
+    let null = ObjectId::null(Kind::Sha1);
+    match kept_of(alloc, texts, names, &null, direction) {
+        Ok(kept) => outcome_of(write_kept(&kept, mappings, buffer, count, len)),
         Err(failure) => failure.number(),
     }
 }
@@ -79,25 +82,25 @@ pub(crate) fn direction_of(number: u32) -> Option<Direction>
     }
 }
 
-// The listing of what fetch specs map.
-fn listing_of(
+// What fetch specs keep over names, each of which stands for a ref with the null id.
+fn kept_of<'spec, 'item>(
     alloc: Global,
-    texts: &[Text<'_>],
-    names: &[Text<'_>],
+    texts: &[Text<'spec>],
+    names: &'item [Text<'_>],
+    null: &'item ObjectId,
     direction: Direction,
-) -> Result<Listing, Failure>
-    ensures ok { IfOk result (λ listing. (es : List Entry) ×
-        AreMatched direction (map bytes_of texts.now) (map bytes_of names.now) es ×
-        Describes es listing.mappings.items listing.text.items) }
+) -> Result<Kept<'spec, 'item>, Failure>
+    requires { id_bytes null.now ≡ replicate 20 0 }
+    ensures ok { IfOk result (λ kept. AreMatched direction
+        (map bytes_of texts.now) (map bytes_of names.now) (entries_of kept)) }
     ensures err { IfErr result (AreUnmatched direction (map bytes_of texts.now)) }
 {
     let group = read_all(alloc, texts, Operation::Fetch)?;
     if lacks_ids(direction, &group) {
         return Err(Failure::NeedsIds);
     }
-    let null = ObjectId::null(Kind::Sha1);
-    match items_of(alloc, names, &null) {
-        Ok(items) => matched(alloc, group, items.as_slice(), direction),
+    match items_of(alloc, names, null) {
+        Ok(items) => kept_over(alloc, group, items.as_slice(), direction),
         Err(_) => Err(Failure::NoMemory),
     }
 }
@@ -114,24 +117,24 @@ fn lacks_ids(direction: Direction, group: &MatchGroup<'_>) -> bool
     }
 }
 
-/// The listing of the mappings of a group that are kept over some items.
-pub(crate) fn matched(
+/// What a group keeps over items.
+pub(crate) fn kept_over<'spec, 'item>(
     alloc: Global,
-    group: MatchGroup<'_>,
-    items: &[Item<'_>],
+    group: MatchGroup<'spec>,
+    items: &[Item<'item>],
     direction: Direction,
-) -> Result<Listing, Failure>
-    ensures ok { IfOk result (λ listing. Lists direction (readings_of group.entry) (map ref_of items.now)
-        listing.mappings.items listing.text.items) }
+) -> Result<Kept<'spec, 'item>, Failure>
+    ensures ok { IfOk result (λ kept. Lists direction
+        (readings_of group.entry) (map ref_of items.now) (entries_of kept)) }
     ensures err { IfErr result (λ f. f ≡ Failure.NoMemory) }
 {
     match direction {
         Direction::Forward => match group.match_lhs(alloc, items) {
-            Ok(outcome) => listed_forward(alloc, &outcome.group, outcome.mappings.as_slice()),
+            Ok(outcome) => Ok(Kept::Forward(outcome)),
             Err(_) => Err(Failure::NoMemory),
         },
         Direction::Backward => match group.match_rhs(alloc, items) {
-            Ok(outcome) => listed_backward(alloc, &outcome.group, outcome.mappings.as_slice()),
+            Ok(outcome) => Ok(Kept::Backward(outcome)),
             Err(_) => Err(Failure::NoMemory),
         },
     }
@@ -155,38 +158,4 @@ pub(crate) fn items_of<'a>(
         })?;
     }
     Ok(items)
-}
-
-// The listing of mappings of a group from left to right.
-fn listed_forward(
-    alloc: Global,
-    group: &MatchGroup<'_>,
-    mappings: &[Mapping<'_, '_>],
-) -> Result<Listing, Failure>
-    ensures ok { IfOk result (λ listing. Describes
-        (map (forward_entry (readings_of group.now)) (map mapped_of mappings.now)) listing.mappings.items listing.text.items) }
-    ensures err { IfErr result (λ f. f ≡ Failure.NoMemory) }
-{
-    let mut listing = Listing::with_room(alloc, mappings.len())?;
-    for mapping in mappings {
-        listing.add_forward(alloc, group, mapping)?;
-    }
-    Ok(listing)
-}
-
-// The listing of mappings of a group from right to left.
-fn listed_backward(
-    alloc: Global,
-    group: &MatchGroup<'_>,
-    mappings: &[Mapping<'_, '_>],
-) -> Result<Listing, Failure>
-    ensures ok { IfOk result (λ listing. Describes
-        (map (backward_entry (readings_of group.now)) (map mapped_of mappings.now)) listing.mappings.items listing.text.items) }
-    ensures err { IfErr result (λ f. f ≡ Failure.NoMemory) }
-{
-    let mut listing = Listing::with_room(alloc, mappings.len())?;
-    for mapping in mappings {
-        listing.add_backward(alloc, group, mapping)?;
-    }
-    Ok(listing)
 }

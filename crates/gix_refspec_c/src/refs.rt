@@ -5,16 +5,18 @@ ghost use Rattle.std.specs.List.{AllZip, list_all};
 ghost use Rattle.gix_refspec.specs.Texts.ObjectId.{id_bytes};
 ghost use Rattle.gix_refspec.specs.Views.Group.{readings_of, ref_of};
 ghost use Rattle.gix_refspec.specs.Views.Spec.{reading_of};
-ghost use Rattle.gix_refspec_c.specs.Mapping.{Describes, Entry, HasAll, LacksAll, Room};
-ghost use Rattle.gix_refspec_c.specs.Matching.{direction_code};
+ghost use Rattle.gix_refspec_c.specs.Kept.{entries_of};
+ghost use Rattle.gix_refspec_c.specs.Mapping.{Entry, HasAll, LacksAll, Room};
+ghost use Rattle.gix_refspec_c.specs.Matching.{Lists, direction_code};
 ghost use Rattle.gix_refspec_c.specs.Outcome.{Answers};
-ghost use Rattle.gix_refspec_c.specs.Refs.{AreMatchedRefs, AreUnmatchedRefs, HasBadId, HasTargets, IsBadId, IsBadSpec};
-ghost use Rattle.gix_refspec_c.specs.Refs.{IsFirstBadSpec, IsIdIn, IsRefOf, LacksTarget, ReadsAs, SomeBadId, is_known};
-ghost use Rattle.gix_refspec_c.specs.Refs.{known_ref, ref_text, spec_text};
+ghost use Rattle.gix_refspec_c.specs.Refs.{AreInput, AreMatchedRefs, AreUnmatchedRefs, HasBadId, HasTargets, IsBadId};
+ghost use Rattle.gix_refspec_c.specs.Refs.{IsBadSpec, IsFirstBadSpec, IsIdIn, IsRefOf, LacksTarget, ReadsAs, SomeBadId};
+ghost use Rattle.gix_refspec_c.specs.Refs.{is_known, known_ref, ref_text, spec_text};
 
 use crate::failure::{Failure, outcome_of};
-use crate::listing::{Listing, MappingOut, write_all};
-use crate::matching::{Direction, direction_of, matched};
+use crate::kept::{Kept, write_kept};
+use crate::listing::MappingOut;
+use crate::matching::{Direction, direction_of, kept_over};
 use crate::reading::{add, operation_of, read};
 use bstr::BStr;
 use gix_refspec::match_group::Item;
@@ -83,22 +85,33 @@ pub extern "C" fn gix_refspec_match_refs(
         Some(direction) => direction,
         None => return Failure::NoOperation.number(),
     };
-    match listing_of(alloc, specs, refs, direction) {
-        Ok(listing) => outcome_of(write_all(&listing, mappings, buffer, count, len)),
+    let input = match read_input(alloc, specs, refs, direction) {
+        Ok(input) => input,
+        Err(failure) => return failure.number(),
+    };
+    let Input { group, refs } = input;
+    match kept_of(alloc, group, refs.as_slice(), direction) {
+        Ok(kept) => outcome_of(write_kept(&kept, mappings, buffer, count, len)),
         Err(failure) => failure.number(),
     }
 }
 
-// The listing of what specs map.
-fn listing_of(
+// What is matched: the specs, and the refs with their ids.
+#[derive(Drop)]
+struct Input<'spec, 'item> {
+    group: MatchGroup<'spec>,
+    refs: Vec<Known<'item>>,
+}
+
+// Reads specs, and the ids of refs. Fails if an id is asked for, and the target of some ref isn't known.
+fn read_input<'spec, 'item>(
     alloc: Global,
-    specs: &[SpecIn<'_>],
-    refs: &[RefIn<'_>],
+    specs: &[SpecIn<'spec>],
+    refs: &[RefIn<'item>],
     direction: Direction,
-) -> Result<Listing, Failure>
-    ensures ok { IfOk result (λ listing. (es : List Entry) ×
-        AreMatchedRefs direction (map spec_text specs.now) (map ref_text refs.now) es ×
-        Describes es listing.mappings.items listing.text.items) }
+) -> Result<Input<'spec, 'item>, Failure>
+    ensures ok { IfOk result (λ input. AreInput direction (map spec_text specs.now) (map ref_text refs.now)
+        (readings_of input.group) (map known_ref input.refs.items)) }
     ensures err { IfErr result (AreUnmatchedRefs direction (map spec_text specs.now) (map ref_text refs.now)) }
 {
     let group = match read_specs(alloc, specs) {
@@ -112,8 +125,22 @@ fn listing_of(
     if lacks_target(direction, &group, refs) {
         return Err(Failure::NeedsIds);
     }
-    match items_of(alloc, known.as_slice()) {
-        Ok(items) => matched(alloc, group, items.as_slice(), direction),
+    Ok(Input { group, refs: known })
+}
+
+// What a group keeps over refs.
+fn kept_of<'spec, 'item>(
+    alloc: Global,
+    group: MatchGroup<'spec>,
+    refs: &'item [Known<'_>],
+    direction: Direction,
+) -> Result<Kept<'spec, 'item>, Failure>
+    ensures ok { IfOk result (λ kept. Lists direction
+        (readings_of group.entry) (map known_ref refs.now) (entries_of kept)) }
+    ensures err { IfErr result (λ f. f ≡ Failure.NoMemory) }
+{
+    match items_of(alloc, refs) {
+        Ok(items) => kept_over(alloc, group, items.as_slice(), direction),
         Err(_) => Err(Failure::NoMemory),
     }
 }

@@ -3,7 +3,7 @@ use Rattle.std.proofs.Common.{map, refl}
 use Rattle.gix_refspec.specs.Views.Group.{readings_of}
 use Rattle.gix_refspec_c.specs.Refs.{no_target, ref_text, spec_text}
 use Rattle.gix_refspec_c.proofs.RefsLemmas.{refs_unread}
-use Rattle.gix_refspec_c.proofs.refs.listing_of.Goals as goal
+use Rattle.gix_refspec_c.proofs.refs.read_input.Goals as goal
 
 pub returns-in-Err-read_refs-clause-err : goal.returns-in-Err-read_refs-clause-err
 returns-in-Err-read_refs-clause-err c =
