@@ -18,7 +18,7 @@ use Rattle.gix_refspec_c.specs.declared.listing.MappingOut.{MappingOut}
 use Rattle.gix_refspec_c.specs.Mapping.{Entry, LacksAll, LacksRoom, Room, Describes, backward_entry, forward_entry}
 use Rattle.gix_refspec_c.specs.Kept.{entries_of}
 use Rattle.gix_refspec_c.specs.Mapping.{text_of, described_at, described_by}
-use Rattle.gix_refspec_c.specs.Matching.{AreMatched, Keeps, Lists, NamesSuffice, entry_of, nameless}
+use Rattle.gix_refspec_c.specs.Matching.{AreMatched, Keeps, Lists, NamesSuffice, nameless}
 use Rattle.gix_refspec_c.proofs.LayoutLemmas.{laid_out_more}
 
 -- one mapping more is told of
