@@ -41,6 +41,11 @@ const FOLLOWED: Kind = Kind {
     message: "the remote has this tag too: if Git follows it, it writes nothing; --no-tags prevents that",
 };
 
+const PREFERRED: Kind = Kind {
+    name: "followed",
+    message: "the remote has this tag too: if Git follows it, it writes the tag here; --no-tags prevents that",
+};
+
 const PRUNED: Kind = Kind {
     name: "pruned",
     message: "git fetch --prune deletes this ref, and then fails to write it",
@@ -123,7 +128,20 @@ pub fn report_unsure(
         ids.push(id.as_bytes())?;
     }
     write_notes(alloc, UNLISTED, ids.as_slice(), style, report)?;
-    write_notes(alloc, FOLLOWED, unsure.tags.as_slice(), style, report)?;
+    write_notes(
+        alloc,
+        FOLLOWED,
+        unsure.tags.stopping.as_slice(),
+        style,
+        report,
+    )?;
+    write_notes(
+        alloc,
+        PREFERRED,
+        unsure.tags.preferred.as_slice(),
+        style,
+        report,
+    )?;
     write_notes(alloc, PRUNED, unsure.pruned.as_slice(), style, report)
 }
 

@@ -14,11 +14,28 @@ use std::collections::BTreeSet;
 pub struct Unsure<'a> {
     /// The object ids that are asked for, in lower case, if no ref of the remote has them.
     pub ids: Vec<String>,
-    /// The destinations below `refs/tags/` that are written from a ref of another name, and that the remote has as tags
-    /// too, if the fetch follows tags.
-    pub tags: Vec<&'a [u8]>,
+    /// The destinations that a fetch which follows tags may have from two refs.
+    pub tags: FollowedTags<'a>,
     /// The stale refs that are written by other specs than those by which the fetch prunes.
     pub pruned: Vec<&'a [u8]>,
+}
+
+/// Destinations below `refs/tags/` that are written from a ref of another name, and that the remote has as tags too.
+#[derive(Drop)]
+pub struct FollowedTags<'a> {
+    /// Those of the specs that are fetched: if Git follows the tag, it writes nothing.
+    pub stopping: Vec<&'a [u8]>,
+    /// Those of configured specs beside given ones: if Git follows the tag, it writes that.
+    pub preferred: Vec<&'a [u8]>,
+}
+
+impl<'a> FollowedTags<'a> {
+    fn new(alloc: Global) -> FollowedTags<'a> {
+        FollowedTags {
+            stopping: Vec::new(alloc),
+            preferred: Vec::new(alloc),
+        }
+    }
 }
 
 /// What is unsure of an answer, given the lines of `git ls-remote` and the ref names in them. Fails if memory runs out.
@@ -31,7 +48,7 @@ pub fn unsure_of<'a>(
     if !answer.plan.is_carried_out() {
         return Ok(Unsure {
             ids: Vec::new(alloc),
-            tags: Vec::new(alloc),
+            tags: FollowedTags::new(alloc),
             pruned: Vec::new(alloc),
         });
     }
@@ -71,8 +88,8 @@ fn followed_tags<'a>(
     alloc: Global,
     answer: &'a Answer<'_, '_, 'a>,
     names: &Names<'_>,
-) -> Result<Vec<&'a [u8]>, AllocError> {
-    let mut tags = Vec::new(alloc);
+) -> Result<FollowedTags<'a>, AllocError> {
+    let mut tags = FollowedTags::new(alloc);
     if !follows_tags(&answer.question) {
         return Ok(tags);
     }
@@ -83,7 +100,11 @@ fn followed_tags<'a>(
                 && !is_called(&update.source, name)
                 && names.has(name)
             {
-                tags.push(name)?;
+                if is_opportunistic(&answer.question, update) {
+                    tags.preferred.push(name)?;
+                } else {
+                    tags.stopping.push(name)?;
+                }
             }
         }
     }
@@ -96,6 +117,14 @@ fn follows_tags(question: &Question<'_, '_, '_>) -> bool {
         .iter()
         .any(|spec| spec.destination().is_some());
     question.tags == Tags::Followed && has_destination
+}
+
+// Whether an update is one by a configured spec beside given ones.
+fn is_opportunistic(question: &Question<'_, '_, '_>, update: &Update<'_>) -> bool {
+    match update.origin {
+        Origin::Configured(_) => !question.given.is_empty(),
+        Origin::Given(_) | Origin::Merge(_) | Origin::Default | Origin::AllTags => false,
+    }
 }
 
 // Whether a source is the ref of this name.
