@@ -4,7 +4,8 @@ ghost use Rattle.std.specs.Prelude.{IfOk, MatchOption, ⊤};
 ghost use Rattle.bstr.specs.Owned.{bstring_bytes};
 ghost use Rattle.gix_refspec.specs.Matching.RefNames.{IsRefName};
 
-use bstr::BString;
+use bstr::{BString, ByteSlice};
+use gix_refspec::RefSpecRef;
 use gix_refspec::match_group::ref_names::is_ref_name;
 use gix_refspec_text::side::joined;
 use refspec_io::quote::write_in_message;
@@ -41,12 +42,8 @@ pub(crate) fn is_below_folder(name: &[u8]) -> bool {
     name.starts_with(b"heads/") || name.starts_with(b"tags/") || name.starts_with(b"remotes/")
 }
 
-// The text of the spec that stores a ref below the folder of a remote.
-pub(crate) fn spec_storing(
-    alloc: Global,
-    name: &[u8],
-    remote: &[u8],
-) -> Result<BString, AllocError> {
+/// The text of the spec that stores a ref below the folder of a remote.
+pub fn spec_storing(alloc: Global, name: &[u8], remote: &[u8]) -> Result<BString, AllocError> {
     let mut text = Vec::new(alloc);
     text.push(b'+')?;
     text.extend_from_slice(name)?;
@@ -65,21 +62,24 @@ fn part_stored(name: &[u8]) -> &[u8] {
     }
 }
 
-// Appends the command that adds a value for a branch to a remote.
-pub(crate) fn write_branch_command(
+/// Appends the command that adds a value for a branch to a remote.
+pub fn write_branch_command(
     remote: &[u8],
     branch: &[u8],
     out: &mut Vec<u8>,
 ) -> Result<(), AllocError> {
     out.extend_from_slice(b"`git remote set-branches --add ")?;
+    if branch.starts_with(b"-") {
+        out.extend_from_slice(b"-- ")?;
+    }
     write_argument(remote, out)?;
     out.push(b' ')?;
     write_argument(branch, out)?;
     Ok(out.push(b'`')?)
 }
 
-// Appends the command that adds a value to a remote.
-pub(crate) fn write_value_command(
+/// Appends the command that adds a value to a remote.
+pub fn write_value_command(
     remote: &[u8],
     value: &[u8],
     out: &mut Vec<u8>,
@@ -91,9 +91,9 @@ pub(crate) fn write_value_command(
     Ok(out.push(b'`')?)
 }
 
-// Appends an argument of a command as a shell reads it: in single quotes, unless all its bytes mean themselves. One with
-// control characters, which no ref name has, is written as in other messages.
-pub(crate) fn write_argument(text: &[u8], out: &mut Vec<u8>) -> Result<(), AllocError> {
+/// Appends an argument of a command as a shell reads it: in single quotes, unless all its bytes mean themselves. One with
+/// control characters, which no ref name has, is written as in other messages.
+pub fn write_argument(text: &[u8], out: &mut Vec<u8>) -> Result<(), AllocError> {
     if text.iter().all(|byte| means_itself(*byte)) || !is_printable(text) {
         return write_in_message(out, text);
     }
@@ -117,6 +117,15 @@ fn is_printable(text: &[u8]) -> bool {
     match str::from_utf8(text) {
         Ok(text) => text.chars().all(|c| !c.is_control()),
         Err(_) => false,
+    }
+}
+
+// Whether a spec stores refs other than tags under their own names.
+pub(crate) fn is_kept(spec: &RefSpecRef<'_>) -> bool {
+    match (spec.source(), spec.destination()) {
+        (Some(source), Some(destination)) => source == destination
+            && !source.starts_with(b"refs/tags/"),
+        _ => false,
     }
 }
 

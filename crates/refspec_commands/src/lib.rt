@@ -4,7 +4,7 @@
 
 pub mod checking;
 pub mod fates;
-mod full_names;
+pub mod full_names;
 mod mappings;
 mod prefetches;
 pub mod prefixes;

@@ -3,7 +3,9 @@
 use crate::fates::answer::Answer;
 use crate::fates::question::{Holder, Known, Question};
 use crate::fates::stops::{Contest, Stop};
-use crate::fates::ways::{write_addition, write_exchange, write_list, write_removal};
+use crate::fates::ways::{
+    write_addition, write_exchange, write_followed, write_list, write_removal,
+};
 use crate::full_names::{full_name, write_argument};
 use bstr::BString;
 use gix_refspec::match_group::ref_names::is_ref_name;
@@ -30,17 +32,61 @@ pub(crate) fn advice_on(
     answer: &Answer,
 ) -> Result<Lack, AllocError> {
     if question.known == Known::Listed && answer.effects.item_index.is_none() {
-        return Ok(Lack {
-            message: "The remote has no such ref.",
-            advice: nearest_advice(alloc, question, holder)?,
-        });
+        return absence_of(alloc, question, holder, answer);
     }
-    if let Some(stop) = stop_of_stored(answer) {
+    if let Some(stop) = &answer.stop {
         return Ok(Lack {
             message: stop_message(stop),
             advice: stop_advice(alloc, holder, answer.texts.as_slice(), stop)?,
         });
     }
+    obstacle_of(alloc, question, holder, answer)
+}
+
+// That the remote lacks a ref: if a spec takes it, the fetch fails without it.
+fn absence_of(
+    alloc: Global,
+    question: &Question<'_, '_, '_>,
+    holder: Holder<'_>,
+    answer: &Answer,
+) -> Result<Lack, AllocError> {
+    let Some(index) = missing_spec(answer) else {
+        return Ok(Lack {
+            message: "The remote has no such ref.",
+            advice: nearest_advice(alloc, question, holder)?,
+        });
+    };
+    let mut advice = Vec::new(alloc);
+    write_removal(holder, text_at(answer.texts.as_slice(), index), &mut advice)?;
+    advice.push(b'.')?;
+    if let Some(name) = nearest_name(question) {
+        write_existing(b" The remote has ", name, &mut advice)?;
+    }
+    Ok(Lack {
+        message: "The remote has no such ref, so Git fetches nothing.",
+        advice,
+    })
+}
+
+// The spec that stops the fetch, if it takes the ref.
+fn missing_spec(answer: &Answer) -> Option<usize> {
+    let Some(Stop::Missing(index)) = &answer.stop else {
+        return None;
+    };
+    let effect = answer.effects.of_specs.get(*index)?;
+    match effect.fate {
+        Fate::Unmatched(_) | Fate::Excludes(_) => None,
+        _ => Some(*index),
+    }
+}
+
+// What is in the way of a ref that the remote has, if nothing stops the fetch.
+fn obstacle_of(
+    alloc: Global,
+    question: &Question<'_, '_, '_>,
+    holder: Holder<'_>,
+    answer: &Answer,
+) -> Result<Lack, AllocError> {
     match first_obstacle(answer) {
         None => Ok(Lack {
             message: "No spec fetches this ref.",
@@ -48,7 +94,12 @@ pub(crate) fn advice_on(
         }),
         Some(Obstacle::Excluded(index)) => Ok(Lack {
             message: "A negative spec excludes this ref.",
-            advice: removal(alloc, holder, text_at(answer.texts.as_slice(), index))?,
+            advice: exclusion_advice(
+                alloc,
+                question,
+                holder,
+                text_at(answer.texts.as_slice(), index),
+            )?,
         }),
         Some(Obstacle::Name) => Ok(Lack {
             message: "Git leaves this ref out, as its name isn't a valid one.",
@@ -60,22 +111,12 @@ pub(crate) fn advice_on(
         }),
         Some(Obstacle::Conflict) => Ok(Lack {
             message: "This ref is in conflict with another one, so it isn't fetched.",
-            advice: Vec::from_slice(
-                alloc,
-                b"Exclude the other source, or give one of the specs another destination.",
-            )?,
+            advice: Vec::from_slice(alloc, APART)?,
         }),
-    }
-}
-
-// What stops the fetch, where some spec stores the ref.
-fn stop_of_stored(answer: &Answer) -> Option<&Stop> {
-    if !answer.is_stored() {
-        return None;
-    }
-    match &answer.stop {
-        None => None,
-        Some(stop) => Some(stop),
+        Some(Obstacle::Directory) => Ok(Lack {
+            message: "Git writes this ref or the one that it is in conflict with, and then fails.",
+            advice: Vec::from_slice(alloc, APART)?,
+        }),
     }
 }
 
@@ -117,6 +158,9 @@ fn write_contest(contest: &Contest, out: &mut Vec<u8>) -> Result<(), AllocError>
     out.extend_from_slice(b": exclude one of these, or give one of the specs another destination.")
 }
 
+// What to do about two refs of which one is in the way of the other.
+const APART: &[u8] = b"Exclude the other source, or give one of the specs another destination.";
+
 // What is in the way of a ref that some spec maps.
 #[derive(Clone, Copy, Debug)]
 enum Obstacle {
@@ -125,6 +169,8 @@ enum Obstacle {
     Name,
     Destination(Fault),
     Conflict,
+    // The destinations of two refs can't both exist.
+    Directory,
 }
 
 // What is wrong with a destination.
@@ -143,7 +189,8 @@ fn first_obstacle(answer: &Answer) -> Option<Obstacle> {
             Fate::Excluded(by) => return Some(Obstacle::Excluded(by.spec_index)),
             Fate::InvalidName => return Some(Obstacle::Name),
             Fate::InvalidDestination => return Some(Obstacle::Destination(fault_of(effect))),
-            Fate::InConflict(_) | Fate::DirectoryConflict(_) => return Some(Obstacle::Conflict),
+            Fate::InConflict(_) => return Some(Obstacle::Conflict),
+            Fate::DirectoryConflict(_) => return Some(Obstacle::Directory),
             Fate::Unmatched(_) | Fate::Excludes(_) | Fate::Duplicate(_) | Fate::Written => {}
         }
     }
@@ -168,9 +215,27 @@ pub(crate) fn removal(
     text: &[u8],
 ) -> Result<Vec<u8>, AllocError> {
     let mut advice = Vec::new(alloc);
-    write_removal(holder, text, &mut advice)?;
-    advice.extend_from_slice(b", or let it exclude less.")?;
+    write_narrowing(holder, text, &mut advice)?;
     Ok(advice)
+}
+
+// That a negative spec is to be left out, which excludes the ref of a question.
+fn exclusion_advice(
+    alloc: Global,
+    question: &Question<'_, '_, '_>,
+    holder: Holder<'_>,
+    text: &[u8],
+) -> Result<Vec<u8>, AllocError> {
+    let mut advice = Vec::new(alloc);
+    write_followed(question, holder, &mut advice)?;
+    write_narrowing(holder, text, &mut advice)?;
+    Ok(advice)
+}
+
+// Appends that a negative spec is to be left out.
+fn write_narrowing(holder: Holder<'_>, text: &[u8], out: &mut Vec<u8>) -> Result<(), AllocError> {
+    write_removal(holder, text, out)?;
+    out.extend_from_slice(b", or let it exclude less.")
 }
 
 // What to do about an invalid destination. Another ref may have a valid one by the same pattern, so that stays.
@@ -202,6 +267,7 @@ fn fetching_advice(
         return name_advice(alloc, question);
     }
     let mut advice = Vec::new(alloc);
+    write_followed(question, holder, &mut advice)?;
     match first_exclusion(answer) {
         None => write_addition(alloc, question, holder, &mut advice)?,
         Some(index) => {
@@ -247,21 +313,30 @@ fn nearest_advice(
     if let Some(path) = tracking_path(question.name, holder) {
         return track_advice(alloc, path);
     }
-    let names = question
-        .refs
-        .iter()
-        .map(|item| item.full_ref_name.as_bytes());
-    for name in names {
+    let mut advice = Vec::new(alloc);
+    match nearest_name(question) {
+        None => write_list(holder, &mut advice)?,
+        Some(name) => write_existing(b"It has ", name, &mut advice)?,
+    }
+    Ok(advice)
+}
+
+// The first ref of the remote that may be meant, if there is one.
+fn nearest_name<'q>(question: &Question<'q, '_, '_>) -> Option<&'q [u8]> {
+    for item in question.refs {
+        let name = item.full_ref_name.as_bytes();
         if are_near(name, question.name) || ends_with_part(name, question.name) {
-            let mut advice = Vec::from_slice(alloc, b"It has ")?;
-            write_in_message(&mut advice, name)?;
-            advice.push(b'.')?;
-            return Ok(advice);
+            return Some(name);
         }
     }
-    let mut advice = Vec::new(alloc);
-    write_list(holder, &mut advice)?;
-    Ok(advice)
+    None
+}
+
+// Appends that the remote has a ref, after these words, as a sentence.
+fn write_existing(words: &[u8], name: &[u8], out: &mut Vec<u8>) -> Result<(), AllocError> {
+    out.extend_from_slice(words)?;
+    write_in_message(out, name)?;
+    Ok(out.push(b'.')?)
 }
 
 // The path of a tracking ref of the remote, as `origin/main`, if the ref is named so.

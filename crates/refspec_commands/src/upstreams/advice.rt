@@ -1,7 +1,7 @@
 //! What would give a branch an upstream.
 
 use crate::full_names::{
-    full_name, spec_storing, write_addition, write_branch_command, write_removal,
+    full_name, is_kept, spec_storing, write_addition, write_branch_command, write_removal,
     write_value_command,
 };
 use crate::upstreams::answer::text_at;
@@ -151,8 +151,8 @@ fn write_exchange(
     }
 }
 
-// Appends the command that adds a value to a remote: by the name of a branch, if the remote has values, else by
-// its text.
+// Appends the command that adds a value to a remote: by the name of a branch, if the remote has values and is no mirror,
+// else by its text.
 fn write_command(
     remote: &[u8],
     merged: &Merged<'_, '_>,
@@ -160,10 +160,15 @@ fn write_command(
     out: &mut Vec<u8>,
 ) -> Result<(), AllocError> {
     match merged.name.strip_prefix(b"refs/heads/") {
-        Some(branch) if !merged.specs.is_empty() => write_branch_command(remote, branch, out)?,
+        Some(branch) if takes_branches(merged) => write_branch_command(remote, branch, out)?,
         _ => write_value_command(remote, value, out)?,
     }
     out.extend_from_slice(b" adds a value that stores it.")
+}
+
+// Whether `git remote set-branches` adds a value that stores a branch below the folder of the remote.
+fn takes_branches(merged: &Merged<'_, '_>) -> bool {
+    !merged.specs.is_empty() && !merged.specs.iter().any(is_kept)
 }
 
 // Appends that the remote is to have a name: below this one no refs can be stored.

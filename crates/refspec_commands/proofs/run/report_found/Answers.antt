@@ -68,9 +68,11 @@ returns-in_ok-report_answer-in_default c =
     c.in_default.not-Track c.in_default.not-Upstream c.in_default.not-Prefetch c.in_default.not-Why (
       beside,
       c.in_ok-beside-in_default.ensures,
-      answer,
-      subst (λ (l : List RefSpecRef). IsAnswer beside (map reading_of l) answer) c.as_slice-in_default.ensures.value
-          c.in_ok-answer-in_default.ensures,
-      subst (λ (n : Notation). AddsAnswer n answer old.form old.results.items new.results.items)
-          c.notation_of.ensures c.in_ok-report_answer-in_default.ensures,
+      (
+        answer,
+        subst (λ (l : List RefSpecRef). IsAnswer beside (map reading_of l) answer) c.as_slice-in_default.ensures.value
+            c.in_ok-answer-in_default.ensures,
+        subst (λ (n : Notation). AddsAnswer n answer old.form old.results.items new.results.items)
+            c.notation_of.ensures c.in_ok-report_answer-in_default.ensures,
+      ),
     )
