@@ -1,8 +1,13 @@
 //! Advice on refs that no remote writes.
 
+use crate::fates::kind_of;
 use crate::named::branch_below;
 use gix_refspec_match::exclusions::Exclusions;
 use gix_refspec_text::side::joined;
+use refspec_commands::fates::question::Kind;
+use refspec_commands::full_names::{
+    spec_storing, write_argument, write_branch_command, write_value_command,
+};
 use refspec_commands::tracking::answer::{Found, Looked};
 use refspec_commands::tracking::question::Remote;
 use refspec_commands::tracking::report::Advice;
@@ -31,7 +36,7 @@ pub fn advice_on<'r>(
 }
 
 // Appends a line of advice on a ref that no value writes: for a tracking ref how to add a value, or that a negative
-// value excludes its source; for a branch how to name its upstream.
+// value excludes its source; for a branch how to find its upstream.
 fn write_advice(
     alloc: Global,
     remotes: &[Remote<'_>],
@@ -40,25 +45,38 @@ fn write_advice(
     out: &mut Vec<u8>,
 ) -> Result<(), AllocError> {
     if let Some(path) = name.strip_prefix(b"refs/remotes/".as_slice()) {
-        write_addition(alloc, remotes, path, out)?;
+        write_addition(alloc, remotes, settings, path, out)?;
     }
     if let Some(branch) = name.strip_prefix(b"refs/heads/".as_slice()) {
-        if last_value(settings, b"branch", branch, b"merge").is_some() {
-            write_about(
-                out,
-                "    This is a branch of your own; for its upstream give ",
-                branch,
-                "@{upstream}.\n",
-            )?;
-        }
+        write_upstream(settings, branch, out)?;
     }
     Ok(())
+}
+
+// Appends how to name the upstream of a branch that merges a ref. Git knows none without a remote.
+fn write_upstream(
+    settings: &[Setting<'_>],
+    branch: &[u8],
+    out: &mut Vec<u8>,
+) -> Result<(), AllocError> {
+    if last_value(settings, b"branch", branch, b"merge").is_none() {
+        return Ok(());
+    }
+    if last_value(settings, b"branch", branch, b"remote").is_some() {
+        let start = "    This is a branch of your own; for its upstream give ";
+        write_about(out, start, branch, "@{upstream}.\n")
+    } else {
+        out.extend_from_slice(b"    This is a branch of your own; `git refspec upstream ")?;
+        write_argument(branch, out)?;
+        out.extend_from_slice(b"` says why it has no upstream.\n")
+    }
 }
 
 // Appends how to add a value that stores a branch at this path below `refs/remotes/`, or that one excludes it.
 fn write_addition(
     alloc: Global,
     remotes: &[Remote<'_>],
+    settings: &[Setting<'_>],
     path: &[u8],
     out: &mut Vec<u8>,
 ) -> Result<(), AllocError> {
@@ -72,9 +90,28 @@ fn write_addition(
         write_about(out, "    A negative value of ", name, " leaves ")?;
         write_about(out, "refs/heads/", branch, " out.\n")
     } else {
-        write_about(out, "    `git remote set-branches --add ", name, " ")?;
-        write_about(out, "", branch, "` adds one.\n")
+        write_command(alloc, settings, name, branch, out)
     }
+}
+
+// Appends the command that adds a value for a branch of a remote.
+fn write_command(
+    alloc: Global,
+    settings: &[Setting<'_>],
+    remote: &[u8],
+    branch: &[u8],
+    out: &mut Vec<u8>,
+) -> Result<(), AllocError> {
+    out.extend_from_slice(b"    ")?;
+    match kind_of(alloc, settings, remote)? {
+        Kind::Plain => write_branch_command(remote, branch, out)?,
+        Kind::Mirror => {
+            let full = joined(alloc, b"refs/heads/", branch, b"")?;
+            let value = spec_storing(alloc, full.as_bytes(), remote)?;
+            write_value_command(remote, value.as_bytes(), out)?;
+        }
+    }
+    out.extend_from_slice(b" adds one, if the remote has that branch.\n")
 }
 
 // The remote with the longest name at the start of a path, and more behind it.

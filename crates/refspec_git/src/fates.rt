@@ -168,7 +168,11 @@ fn holder_of<'a>(
 }
 
 // What `git remote set-branches` does for a remote.
-fn kind_of(alloc: Global, settings: &[Setting<'_>], remote: &[u8]) -> Result<Kind, AllocError> {
+pub(crate) fn kind_of(
+    alloc: Global,
+    settings: &[Setting<'_>],
+    remote: &[u8],
+) -> Result<Kind, AllocError> {
     let mirrors = settings_named(alloc, settings, b"remote", remote, b"mirror")?;
     match mirrors.last() {
         Some(setting) if is_true(setting.value) => Ok(Kind::Mirror),
