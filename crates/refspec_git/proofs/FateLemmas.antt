@@ -1,7 +1,7 @@
 -- What `git refspec why` reports of a ref.
 use Rattle.std.proofs.Common.{◌≡◌, ◌∙◌, ◌⊎◌, ◌≤◌, ◌<◌, ℕ, [], ◌∷◌, ◌++◌, Bool, Bor, Err, IfErr, IfOk, List}
-use Rattle.std.proofs.Common.{MatchResult, None, Ok, Option, Result, Some, ap, append-nil, arith, codes, cond, drop}
-use Rattle.std.proofs.Common.{false, get_or, inl, inr, length, map, refl, subst, sym, take, true}
+use Rattle.std.proofs.Common.{MatchBool, MatchResult, None, Ok, Option, Result, Some, ap, append-nil, arith, codes}
+use Rattle.std.proofs.Common.{cond, drop, false, get_or, inl, inr, length, map, not, refl, subst, sym, take, true}
 use Rattle.std.proofs.lemmas.List.{get_or_default, length-append, map-append}
 use Rattle.std.proofs.lemmas.List.Elements.{All-map}
 use Rattle.std.specs.List.{All}
@@ -39,13 +39,21 @@ use Rattle.refspec_git.specs.declared.answer.Stop.TheVariants as stop
 use Rattle.refspec_git.specs.declared.specs.Specs.{Specs}
 use Rattle.refspec_git.specs.Answers.{IsReport}
 use Rattle.refspec_git.specs.declared.fates.Asked.{Asked}
-use Rattle.refspec_git.specs.Fates.{AddsOwnSpec, AnswersAbout, IsAsked, IsAskedBy, IsListed, IsUnlisted, MayBeAlone}
+use Rattle.refspec_git.specs.Fates.{AddsOwnSpec, AnswersAbout, IsAsked, IsAskedBy, IsListed, IsLocal, IsRemote}
+use Rattle.refspec_git.specs.Fates.{IsUnlisted, MayBeAlone}
 use Rattle.refspec_git.specs.Fates.{MeansRef, NeverAlone, PlansFor, RefusesAbout, RefusesAsked, RefusesFates}
 use Rattle.refspec_git.specs.Fates.{RefusesName, ReportsFates}
 use Rattle.refspec_git.specs.Fetch.{AreAmong}
 use Rattle.refspec_git.specs.Named.{HasFirst}
 use Rattle.refspec_git.specs.Wanted.{AreSpecsOf, RefusesSpecs}
 use Rattle.refspec_git.proofs.AnswerLemmas.{filled}
+
+-- a tracking ref that no ref of the remote is called is local, and one that is isn't
+pub local_or_remote : (items : List Item) (name : List ℕ) (b : Bool) → BeginsWith (codes "refs/remotes/") name
+    → MatchBool b (IsListed items name) (IsUnlisted items name)
+    → MatchBool (not b) (IsLocal items name) (IsRemote items name)
+local_or_remote items name true begins listed = inr listed
+local_or_remote items name false begins unlisted = (begins, unlisted)
 
 -- a report answers a question about a ref
 pub about_reported : (r : Repository) (form : Form) (name : List ℕ) (choice : Choice) (s : Specs) (lines : List ℕ)

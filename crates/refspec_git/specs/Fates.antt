@@ -173,7 +173,7 @@ pub record ReportsLocal (s : Specs) (g : List Reading) (items : List Item) (name
     (old new : Report) : Type 0 where
   pub question : Question
   pub answer : LocalAnswer
-  pub name : question.name.now ≡ name
+  pub named : question.name.now ≡ name
   pub counted : map reading_of question.specs.now ≡ g ++ cond (takes_all s.tags) (all_tags ∷ []) []
   pub refs : question.refs.now ≡ items
   pub known : question.known ≡ known.Listed

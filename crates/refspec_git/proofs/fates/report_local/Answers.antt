@@ -23,7 +23,7 @@ returns c =
     record {
       question = question;
       answer = c.in_ok-answer.answer;
-      name = refl;
+      named = refl;
       counted = ap (map reading_of) c.as_slice.ensures.value ∙ (c.in_ok-add_all_tags.ensures
           ∙ ap (λ (l : List Reading). l ++ cond (takes_all inquiry.specs.tags) (all_tags ∷ []) [])
           (ap (map reading_of) c.in_ok-all.ensures.items));

@@ -8,5 +8,7 @@ returns c =
     let first = c.write_notes.new.report in
     let second = c.write_notes-2.new.report in
     let third = c.write_notes-3.new.report in
-    on_ok c.write_notes-3.result _ _ c.write_notes-3.ensures (KeepsReport-next old second third
-    (KeepsReport-next old first second c.in_ok-write_notes.ensures c.in_ok-write_notes-2.ensures))
+    let fourth = c.write_notes-4.new.report in
+    let before = KeepsReport-next old first second c.in_ok-write_notes.ensures c.in_ok-write_notes-2.ensures in
+    on_ok c.write_notes-4.result _ _ c.write_notes-4.ensures (KeepsReport-next old third fourth
+    (KeepsReport-next old second third before c.in_ok-write_notes-3.ensures))
