@@ -6,8 +6,8 @@ refused if the checker doesn't prove that function, unless the edit is bad: the 
 that the edit took away, or that it ran into a limit of its own (of steps, memory or stack; bounds of tactics don't count). Neither
 says anything of the contract. A line names each edit that is bad or not refused, and then the status is 1.
 A proof goes by what other functions promise, and not by their bodies, so many edits are tried at once, in rounds: one of a
-function, and those of functions that call a changed one in a later round. An edit with `alone:` changes more than bodies. It
-has a round of its own, in which each error of the checker counts as one of `at:`.
+function, and those of functions that call a changed one, or of which the checker says nothing, in a later round. An edit with
+`alone:` changes more than bodies. It has a round of its own, in which each error of the checker counts as one of `at:`.
 
 Without CRATE all are tried. NAME is what the names of edits begin with. The libraries below a crate are those that `make test`
 left proved; with --after, those that a run of it, with the log LOG, proves meanwhile.
@@ -78,7 +78,7 @@ def said_of(crate, texts, functions, kept):
                 changed.write(text)
         text = crate.check(copy, kept, [word for name in functions for word in ("--only", name)])
     said = dict(re.findall(rf"^fn {crate.name}::(\S+): (.*)$", text, re.M))
-    if not re.search(r"^only=\d+ proved=\d+", text, re.M) or not said.keys() >= functions:
+    if not re.search(r"^only=\d+ proved=\d+", text, re.M) or not said.keys() & functions:
         raise kit.Failure(f"{crate.name}: {' '.join(functions - said.keys())}: the checker said:\n{text[-2000:]}")
     return said, kit.errors(text)
 
@@ -103,7 +103,7 @@ def try_all(crate, edits):
         while left:
             tried, texts = next_round(crate, left)
             said, errors = said_of(crate, texts, {it.at for it in tried}, kept)
-            decided = [it for it in tried if it.is_alone or not BY_OTHERS.match(said[it.at])]
+            decided = [it for it in tried if it.at in said and (it.is_alone or not BY_OTHERS.match(said[it.at]))]
             if not decided:
                 raise kit.Failure(f"{crate.name}: each calls a changed function: {' '.join(it.name for it in tried)}")
             for edit in decided:
