@@ -1,4 +1,4 @@
--- The definitions that only private functions use, for their steps.
+-- The definitions of steps: for private functions, and for those that are public for `gix_refspec_diff` alone.
 pub mod Alike
 pub mod Borders
 pub mod Overlaps

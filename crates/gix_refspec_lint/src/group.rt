@@ -32,12 +32,12 @@ use gix_refspec_text::oid::{Kind, ObjectId};
 use gix_refspec_text::side::{SideKind, candidates, joined, kind_of, split_at_first_star};
 use std::alloc::{AllocError, Global};
 
-// Specs with completed destinations, what the negative ones exclude, and the words to try for a star.
+/// Specs with completed destinations, what the negative ones exclude, and the words to try for a star.
 #[derive(Drop)]
-pub(super) struct Group<'g, 's> {
-    pub(super) specs: &'g [RefSpecRef<'g>],
-    pub(super) exclusions: Exclusions<'s>,
-    pub(super) words: Vec<BString>,
+pub struct Group<'g, 's> {
+    pub specs: &'g [RefSpecRef<'g>],
+    pub exclusions: Exclusions<'s>,
+    pub words: Vec<BString>,
 }
 
 impl<'g, 's> Group<'g, 's> {
@@ -46,8 +46,8 @@ impl<'g, 's> Group<'g, 's> {
     ghost use Rattle.gix_refspec_lint.specs.Matching.Lint.{IsFree};
     ghost use Rattle.gix_refspec_lint.specs.Private.Lints.{IsGroupOf};
 
-    // The group of these specs, whose destinations were completed, with a free byte.
-    pub(super) fn of(
+    /// The group of these specs, whose destinations were completed, with a free byte.
+    pub fn of(
         alloc: Global,
         specs: &[RefSpecRef<'s>],
         completed: &'g [RefSpecRef<'g>],
@@ -64,8 +64,8 @@ impl<'g, 's> Group<'g, 's> {
         })
     }
 
-    // The index of a spec that excludes a source.
-    pub(super) fn excluding(&self, source: &SourceRef<'_>) -> Option<usize>
+    /// The index of a spec that excludes a source.
+    pub fn excluding(&self, source: &SourceRef<'_>) -> Option<usize>
         ensures { (g : List Reading) → IsGroupOf g self.now → MatchOption result
             (¬ (IsSourceExcluded g (start_of source.now)))
             (λ k. (n : List ℕ) × (start_of source.now ≡ name n) ×
@@ -78,8 +78,8 @@ impl<'g, 's> Group<'g, 's> {
     }
 }
 
-// Adds an item for the name of a source, whatever it points to.
-pub(super) fn add_item<'i>(
+/// Adds an item for the name of a source, whatever it points to.
+pub fn add_item<'i>(
     items: &mut Vec<Item<'i>>,
     source: &'i Source,
     target: &'i ObjectId,
@@ -178,8 +178,8 @@ fn same_name(one: &Option<NameRef<'_>>, other: Option<BStr<'_>>) -> bool
     }
 }
 
-// The bytes of a destination.
-pub(super) fn name_of<'n>(name: &'n Option<NameRef<'_>>) -> Option<BStr<'n>>
+/// The bytes of a destination.
+pub fn name_of<'n>(name: &'n Option<NameRef<'_>>) -> Option<BStr<'n>>
     ensures { option_map bstr_bytes result ≡ option_map name_bytes name.now }
 {
     match name {
@@ -264,8 +264,8 @@ pub(super) fn with_its_word(
     }
 }
 
-// The sources that a spec without a star may map.
-pub(super) fn named_sources(alloc: Global, spec: &RefSpecRef<'_>) -> Result<Vec<Source>, AllocError>
+/// The sources that a spec without a star may map.
+pub fn named_sources(alloc: Global, spec: &RefSpecRef<'_>) -> Result<Vec<Source>, AllocError>
     ensures { ((x before after : List ℕ) → (reading_of spec.now).source ≡ Some x → ¬ (IsSplit before after x)) →
         IfOk result (λ sources. (refs : List Ref) (s : Source) (d : Option (List ℕ)) →
         MakesForward refs s d (reading_of spec.now) → Contains (map start_of sources.items) s) }
@@ -290,8 +290,8 @@ pub(super) fn named_sources(alloc: Global, spec: &RefSpecRef<'_>) -> Result<Vec<
     Ok(sources)
 }
 
-// The name of a ref as a source.
-pub(super) fn source_named(text: BString) -> Source
+/// The name of a ref as a source.
+pub fn source_named(text: BString) -> Source
     ensures { start_of result ≡ name (bstring_bytes text) }
 {
     SourceRef::FullName(NameRef::Owned(text))

@@ -39,11 +39,11 @@ use gix_refspec_text::oid::ObjectId;
 use gix_refspec_text::side::{SideKind, candidates, joined, kind_of};
 use std::alloc::{AllocError, Global};
 
-// Which specs a spec is compared with: those from an index on, before another one.
+/// Which specs a spec is compared with: those from an index on, before another one.
 #[derive(Clone, Copy)]
-pub(super) struct Others {
-    pub(super) from: usize,
-    pub(super) to: usize,
+pub struct Others {
+    pub from: usize,
+    pub to: usize,
 }
 
 // Why a spec maps nothing of its own.
@@ -344,8 +344,8 @@ fn idle_beside<'x>(
     }
 }
 
-// Adds an item for each name, whatever it points to.
-fn add_names<'i>(
+/// Adds an item for each name, whatever it points to.
+pub fn add_names<'i>(
     items: &mut Vec<Item<'i>>,
     names: &'i [BString],
     target: &'i ObjectId,
@@ -363,8 +363,8 @@ fn add_names<'i>(
     Ok(())
 }
 
-// The first of the specs that maps a source to a destination among the items.
-fn first_of(
+/// The first of the specs that maps a source to a destination among the items.
+pub fn first_of(
     alloc: Global,
     group: &Group<'_, '_>,
     others: Others,
@@ -493,8 +493,8 @@ fn is_new(name: BStr<'_>, names: &[BString], kept_away: &[BString]) -> bool
     is_allowed(name, kept_away)
 }
 
-// Whether a name is valid, and not in a list.
-fn is_allowed(name: BStr<'_>, kept_away: &[BString]) -> bool
+/// Whether a name is valid, and not in a list.
+pub fn is_allowed(name: BStr<'_>, kept_away: &[BString]) -> bool
     ensures { MatchBool result
         (IsRefName (bstr_bytes name.entry) × ¬ (Contains (map bstring_bytes kept_away.now) (bstr_bytes name.entry)))
         (¬ (IsRefName (bstr_bytes name.entry) × ¬ (Contains (map bstring_bytes kept_away.now) (bstr_bytes name.entry)))) }
@@ -505,8 +505,8 @@ fn is_allowed(name: BStr<'_>, kept_away: &[BString]) -> bool
     !contains(kept_away, name)
 }
 
-// The candidates that a partial source tries before a name. None if it isn't one of them.
-fn candidates_before(
+/// The candidates that a partial source tries before a name. None if it isn't one of them.
+pub fn candidates_before(
     alloc: Global,
     spec: &RefSpecRef<'_>,
     source: &Source,

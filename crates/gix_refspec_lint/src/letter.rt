@@ -11,8 +11,8 @@ use super::Error;
 use bstr::BStr;
 use gix_refspec_text::RefSpecRef;
 
-// A byte that is in no side of a spec, and that may be anywhere in a ref name. A letter in lower case if there is one.
-pub(super) fn free_byte(specs: &[RefSpecRef<'_>]) -> Result<u8, Error>
+/// A byte that is in no side of a spec, and that may be anywhere in a ref name. A letter in lower case if there is one.
+pub fn free_byte(specs: &[RefSpecRef<'_>]) -> Result<u8, Error>
     ensures { MatchResult result
         (IsFree (map reading_of specs.now))
         (λ e. (e ≡ error.NoFreeByte) × ((b : ℕ) → ¬ (IsFree (map reading_of specs.now) b))) }

@@ -171,8 +171,8 @@ fn positives<'s>(
     Ok(positives)
 }
 
-// Whether tags are followed: some value has a destination.
-fn follow_tags(values: &[RefSpecRef<'_>]) -> bool
+/// Whether tags are followed: some value has a destination.
+pub fn follow_tags(values: &[RefSpecRef<'_>]) -> bool
     ensures { MatchBool result (FollowsTags (map reading_of values.now)) (¬ (FollowsTags (map reading_of values.now))) }
 {
     for value in values {
@@ -183,7 +183,8 @@ fn follow_tags(values: &[RefSpecRef<'_>]) -> bool
     false
 }
 
-fn has_destination(value: &RefSpecRef<'_>) -> bool
+/// Whether a value is positive and has a destination.
+pub fn has_destination(value: &RefSpecRef<'_>) -> bool
     ensures { MatchBool result (HasDestination (reading_of value.now)) (¬ (HasDestination (reading_of value.now))) }
 {
     !value.is_negative() && value.destination().is_some()

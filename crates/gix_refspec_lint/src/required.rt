@@ -41,8 +41,12 @@ pub(super) fn is_required(
     Ok(true)
 }
 
-// Whether a spec lacks its source wherever no ref has one of these names.
-fn lacks_with(alloc: Global, spec: &RefSpecRef<'_>, names: &[BString]) -> Result<bool, AllocError>
+/// Whether a spec lacks its source wherever no ref has one of these names.
+pub fn lacks_with(
+    alloc: Global,
+    spec: &RefSpecRef<'_>,
+    names: &[BString],
+) -> Result<bool, AllocError>
     ensures { (r : Reading) → AreNamed r (map bstring_bytes names.now) → IfOk result (λ does. MatchBool does
         ((refs : List Ref) → AreValid refs → LacksSource refs r → LacksSource refs (reading_of spec.now))
         (IsHadBeside (reading_of spec.now) (map bstring_bytes names.now))) }
@@ -58,9 +62,9 @@ fn lacks_with(alloc: Global, spec: &RefSpecRef<'_>, names: &[BString]) -> Result
     Ok(true)
 }
 
-// The refs that a positive spec without a star names: a full name, or the candidates of a partial one that are valid. `None` of
-// any other spec, whose source is never missing.
-fn named_refs(alloc: Global, spec: &RefSpecRef<'_>) -> Result<Option<Vec<BString>>, AllocError>
+/// The refs that a positive spec without a star names: a full name, or the candidates of a partial one that are valid. `None` of
+/// any other spec, whose source is never missing.
+pub fn named_refs(alloc: Global, spec: &RefSpecRef<'_>) -> Result<Option<Vec<BString>>, AllocError>
     ensures { IfOk result (λ names. MatchOption names
         (IsNeverMissing (reading_of spec.now))
         (λ list. AreNamed (reading_of spec.now) (map bstring_bytes list.items))) }
@@ -100,8 +104,8 @@ pub(super) fn valid_names(alloc: Global, names: Vec<BString>) -> Result<Vec<BStr
     Ok(valid)
 }
 
-// Whether a list has a name.
-pub(super) fn contains(names: &[BString], name: BStr<'_>) -> bool
+/// Whether a list has a name.
+pub fn contains(names: &[BString], name: BStr<'_>) -> bool
     ensures { IsTrue result ↔ Contains (map bstring_bytes names.now) (bstr_bytes name.entry) }
 {
     for one in names {

@@ -12,8 +12,8 @@ use gix_refspec_plan::mapped::is_sound;
 use gix_refspec_text::RefSpecRef;
 use std::alloc::{AllocError, Global};
 
-// A mapping of the source among the items by the spec, whatever others do, whose sides are valid.
-pub(super) fn sound_mapping<'item, 's>(
+/// A mapping of the source among the items by the spec, whatever others do, whose sides are valid.
+pub fn sound_mapping<'item, 's>(
     alloc: Global,
     spec: RefSpecRef<'s>,
     items: &[Item<'item>],

@@ -21,8 +21,8 @@ const PARTS: [&[u8]; 26] = [
     b"s", b"s/", b"/", b"H", b"HE", b"HEA", b"HEAD", b"E", b"EA", b"EAD", b"A", b"AD", b"D",
 ];
 
-// The words to try for the star of a pattern.
-pub(super) fn words_of(alloc: Global, letter: u8) -> Result<Vec<BString>, AllocError>
+/// The words to try for the star of a pattern.
+pub fn words_of(alloc: Global, letter: u8) -> Result<Vec<BString>, AllocError>
     ensures { IfOk result (λ words. map bstring_bytes words.items ≡ words_with letter) }
 {
     let mut words = Vec::with_capacity(alloc, ENDINGS.len() + PARTS.len())?;
@@ -35,19 +35,19 @@ pub(super) fn words_of(alloc: Global, letter: u8) -> Result<Vec<BString>, AllocE
     Ok(words)
 }
 
-// The texts that each name begins and ends with that two patterns match, and in how many bytes these may overlap in one.
+/// The texts that each name begins and ends with that two patterns match, and in how many bytes these may overlap in one.
 #[derive(Clone, Copy)]
-pub(super) struct Common<'a> {
-    pub(super) prefix: &'a [u8],
-    pub(super) suffix: &'a [u8],
-    most: usize,
+pub struct Common<'a> {
+    pub prefix: &'a [u8],
+    pub suffix: &'a [u8],
+    pub most: usize,
 }
 
 impl<'a> Common<'a> {
     ghost use Rattle.gix_refspec_lint.specs.declared.words.Common.{Common};
 
-    // Those of two patterns, by the texts before and after their stars. `None` if no name matches both.
-    pub(super) fn of(one: (&'a [u8], &'a [u8]), other: (&'a [u8], &'a [u8])) -> Option<Common<'a>>
+    /// Those of two patterns, by the texts before and after their stars. `None` if no name matches both.
+    pub fn of(one: (&'a [u8], &'a [u8]), other: (&'a [u8], &'a [u8])) -> Option<Common<'a>>
         ensures { MatchOption result
             (AreApart one.entry.0.now one.entry.1.now other.entry.0.now other.entry.1.now)
             (AreCommon one.entry.0.now one.entry.1.now other.entry.0.now other.entry.1.now) }
@@ -88,16 +88,16 @@ impl<'a> Common<'a> {
         joined(alloc, self.prefix, word, self.suffix)
     }
 
-    // The name in which the texts overlap in so many bytes.
-    pub(super) fn overlapping(&self, alloc: Global, shared: usize) -> Result<BString, AllocError>
+    /// The name in which the texts overlap in so many bytes.
+    pub fn overlapping(&self, alloc: Global, shared: usize) -> Result<BString, AllocError>
         requires { shared ≤ length self.now.suffix.now }
         ensures { IfOk result (λ name. bstring_bytes name ≡ self.now.prefix.now ++ drop shared self.now.suffix.now) }
     {
         joined(alloc, self.prefix, b"", &self.suffix[shared..])
     }
 
-    // In how many bytes the texts can overlap, the most first: in so many as one ends with and the other begins with.
-    pub(super) fn overlaps(&self, alloc: Global) -> Result<Vec<usize>, AllocError>
+    /// In how many bytes the texts can overlap, the most first: in so many as one ends with and the other begins with.
+    pub fn overlaps(&self, alloc: Global) -> Result<Vec<usize>, AllocError>
         requires { IsBounded self.now }
         ensures { IfOk result (λ shared. AreOverlaps self.now.prefix.now self.now.suffix.now self.now.most shared.items) }
     {

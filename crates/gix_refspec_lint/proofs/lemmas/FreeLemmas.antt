@@ -311,7 +311,7 @@ module _ (xs others ys : List Reading) (alone : AllByRecursion (λ (r : Reading)
     ]
   ]
 
-index_of : (l : List Reading) (r : Reading) → Contains l r → (k : ℕ) × (slice_get l k ≡ Some r)
+pub index_of : (l : List Reading) (r : Reading) → Contains l r → (k : ℕ) × (slice_get l k ≡ Some r)
 index_of l r (k, below, is) = (k, slice_get_read l (length l) k r refl below (sym is))
 
 abbrev pub readings_of : List Asked → List Reading

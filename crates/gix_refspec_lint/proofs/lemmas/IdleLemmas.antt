@@ -264,7 +264,7 @@ one_far A B (name n) d e c one other =
     (subst (λ w. IsFilled c.destination w d) words (subst (λ x. IsFilled x a.word d) (sym one.has.far) a.becomes))
     (subst (λ x. IsFilled x b.word e) (sym other.has.far) b.becomes)
 
-maps_also : (g : List Reading) (A B : List Ref) (k : ℕ) (s : Source) (d : Option (List ℕ)) → HaveSameNames A B
+pub maps_also : (g : List Reading) (A B : List Ref) (k : ℕ) (s : Source) (d : Option (List ℕ)) → HaveSameNames A B
     → Maps g A k s d → Maps g B k s d
 maps_also g A B k s d same m = maps_as m (makes_also A B s d m.completed same m.makes)
 

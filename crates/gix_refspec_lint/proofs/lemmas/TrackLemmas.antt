@@ -39,14 +39,14 @@ in_early (x ∷ l) r q (zero, below, is) = (zero, omega arith, ap Some is)
 in_early (x ∷ l) r q (suc k, below, is) = let (h, under, at) = in_early l r q (k, omega (arith, below), is) in
     (suc h, omega (arith, under), at)
 
-taken_at : (g : List Reading) (k h : ℕ) (q : Reading) → h < k → slice_get g h ≡ Some q → Contains (take k g) q
+pub taken_at : (g : List Reading) (k h : ℕ) (q : Reading) → h < k → slice_get g h ≡ Some q → Contains (take k g) q
 taken_at [] k h q below at = absurd (let never : None ≡ Some q = at in cc (never))
 taken_at (x ∷ g) zero h q below at = absurd (omega (arith, below))
 taken_at (x ∷ g) (suc k) zero q below at = (zero, omega arith, same_Some _ _ at)
 taken_at (x ∷ g) (suc k) (suc h) q below at = let (j, under, is) = taken_at g k h q (omega (arith, below)) at in
     (suc j, omega (arith, under), is)
 
-at_taken : (g : List Reading) (k : ℕ) (q : Reading) → Contains (take k g) q → (h : ℕ) × (h < k)
+pub at_taken : (g : List Reading) (k : ℕ) (q : Reading) → Contains (take k g) q → (h : ℕ) × (h < k)
     × (slice_get g h ≡ Some q)
 at_taken [] zero q (j, below, is) = absurd (omega (arith, below))
 at_taken [] (suc k) q (j, below, is) = absurd (omega (arith, below))
@@ -57,12 +57,26 @@ at_taken (x ∷ g) (suc k) q (suc j, below, is) = let (h, under, at) = at_taken 
 
 -- ---- refs of the command line
 
-made_some : (refs : List Ref) (s : Source) (d : Option (List ℕ)) (c : Reading) (e : List ℕ) → MakesForward refs s d c
-    → c.destination ≡ Some e → (n : List ℕ) × (d ≡ Some n)
+pub made_some : (refs : List Ref) (s : Source) (d : Option (List ℕ)) (c : Reading) (e : List ℕ)
+    → MakesForward refs s d c → c.destination ≡ Some e → (n : List ℕ) × (d ≡ Some n)
 made_some refs (name n) d c e makes has = let (kind, of, becomes) = subst (λ o. IsFilled o makes.one.4.word d)
     (sym makes.has.far ∙ has) makes.one.4.becomes in (_, becomes)
 made_some refs (id bytes) d c e makes has = let (kind, of, becomes) =
     subst (λ o. IsFilled o None d) has makes.becomes in (_, becomes)
+
+-- a destination is there still where it is completed
+pub completed_some : (r c : Reading) → IsCompleted r c → IsSome r.destination → (e : List ℕ)
+    × (c.destination ≡ Some e)
+completed_some r c done some = by_side r.destination refl some
+  where
+    by_side : (o : Option (List ℕ)) → r.destination ≡ o → IsSome o → (e : List ℕ) × (c.destination ≡ Some e)
+    by_side None is none = absurd (false≢true none)
+    by_side (Some d) is some =
+        elim (subst (λ o. MatchOption o (c.destination ≡ None) (λ d. (HasStar d × (c.destination ≡ Some d))
+        ⊎ (Lacks star d × (c.destination ≡ Some (written_name_of d))))) is done.destination) [
+          | inl one ↦ (d, one.1)
+          | inr one ↦ (written_name_of d, one.1)
+        ]
 
 module _ (g l : List Reading) (k : ℕ) (r : Reading) (at : slice_get g k ≡ Some r) (has : HasDestination r)
     (are : ArePositives (take k g) l) where
@@ -149,19 +163,6 @@ module _ (g l : List Reading) (k : ℕ) (r : Reading) (at : slice_get g k ≡ So
             let (j, under, later) = later_first w.refs h w.source (Some d) below earlier in
             w.first j (omega arith, under) (subst (λ o. Maps m w.refs j w.source o) (sym is) later);
       }
-    where
-      completed_some : (r c : Reading) → IsCompleted r c → IsSome r.destination → (e : List ℕ)
-          × (c.destination ≡ Some e)
-      completed_some r c done some = by_side r.destination refl some
-        where
-          by_side : (o : Option (List ℕ)) → r.destination ≡ o → IsSome o → (e : List ℕ) × (c.destination ≡ Some e)
-          by_side None is none = absurd (false≢true none)
-          by_side (Some d) is some =
-              elim (subst (λ o. MatchOption o (c.destination ≡ None) (λ d. (HasStar d × (c.destination ≡ Some d))
-              ⊎ (Lacks star d × (c.destination ≡ Some (written_name_of d))))) is done.destination) [
-                | inl one ↦ (d, one.1)
-                | inr one ↦ (written_name_of d, one.1)
-              ]
 
   pub tracks_works : Tracks g k → IsAtWork m (earlier_than (length l)) (length l)
   tracks_works t =
