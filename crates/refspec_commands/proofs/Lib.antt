@@ -1,4 +1,5 @@
 mod facts
+pub mod AdviceLemmas
 pub mod EachLemmas
 pub mod FateLemmas
 pub mod LocalLemmas

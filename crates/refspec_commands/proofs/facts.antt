@@ -1,4 +1,5 @@
 -- Examples and counterexamples of the definitions in specs/, so that a wrong definition is noticed.
+pub mod AdviceFacts
 pub mod AskedFacts
 pub mod CanonFacts
 pub mod FateFacts

@@ -1,3 +1,4 @@
+pub mod Advice
 pub mod Answer
 pub mod Canon
 pub mod Each
