@@ -1,0 +1,197 @@
+-- What two lists of values do otherwise, on both sides of each border.
+use Rattle.gix_refspec_diff.proofs.Common.{CanBeWritten, Fetches, IsCompleted, IsPositive, IsRefName, List, Maps}
+use Rattle.gix_refspec_diff.proofs.Common.{Negative, None, Normal, Reading, Ref, Some, [], arith, false≢true, inl, inr}
+use Rattle.gix_refspec_diff.proofs.Common.{name, ref_named, refl, same_Some, slice_get, subst, sym, zero, ℕ, ◌∷◌, ◌≡◌}
+use Rattle.gix_refspec_lint.proofs.Common.{HasKind, HasSourcePattern, IsExcluded, Lacks-tested, codes, every, fetched}
+use Rattle.gix_refspec_lint.proofs.Common.{full_name, head, heads_split, origin_split, star, suc}
+use Rattle.gix_refspec_lint.proofs.facts.LintFacts.{every_never}
+use Rattle.gix_refspec_lint.proofs.lemmas.PatternLemmas.{spec_maps, two_patterns}
+use Rattle.gix_refspec_lint.proofs.lemmas.SourceLemmas.{destination_made}
+use Rattle.gix_refspec_text.proofs.lemmas.texts.TestedLemmas.{IsName-tested}
+use Rattle.gix_refspec_text.specs.Specs.Reading.{fetched_alone}
+use Rattle.gix_refspec_lint.specs.Matching.Removal.{FollowsTags, HasDestination}
+use Rattle.gix_refspec_match.specs.Matching.Missing.{LacksSource}
+use Rattle.gix_refspec_diff.specs.Matching.Difference.{FetchAlike, FetchesAlone, FollowAlike, LackAlike, LacksAlone}
+use Rattle.gix_refspec_diff.specs.Matching.Difference.{LacksSome, UpdatesPair, or_head}
+
+-- ---- no values
+
+pub without_values : or_head [] ≡ fetched_alone head ∷ []
+without_values = refl
+
+-- a list of negative values isn't empty
+pub negative_alone : (n : List ℕ) → or_head (fetched Negative n None ∷ []) ≡ fetched Negative n None ∷ []
+negative_alone n = refl
+
+-- ---- what one list alone fetches
+
+abbrev branch : List ℕ
+branch = codes "refs/heads/a"
+
+abbrev tracking : List ℕ
+tracking = codes "refs/remotes/origin/a"
+
+branch_valid : IsRefName branch
+branch_valid = inl (record { after = codes "heads/a"; here = refl }, IsName-tested branch refl)
+
+tracking_written : CanBeWritten (Some tracking)
+tracking_written = (record { after = codes "remotes/origin/a"; here = refl }, IsName-tested tracking refl)
+
+abbrev refs : List Ref
+refs = ref_named branch ∷ []
+
+module _ (r : Reading) (positive : IsPositive r.mode) (source : r.source ≡ Some (codes "refs/heads/*"))
+    (to : r.destination ≡ Some (codes "refs/remotes/origin/*")) where
+  completed : IsCompleted r r
+  completed = record {
+    operation = refl;
+    mode = refl;
+    source = refl;
+    destination = rw to (inl (record { before = codes "refs/remotes/origin/"; after = []; here = refl }, refl));
+  }
+
+  maps : (g : List Reading) (k : ℕ) → slice_get g k ≡ Some r → Maps g refs k (name branch) (Some tracking)
+  maps g k at =
+      let side : HasSourcePattern r (codes "refs/heads/") [] = record { text = _; has = source; split = heads_split } in
+      let spec = two_patterns r (codes "refs/heads/") [] (codes "refs/remotes/origin/") [] _ positive side to
+      origin_split in
+      record {
+        reading = r;
+        at = at;
+        completed = r;
+        is = completed;
+        makes = spec_maps r (codes "refs/heads/") [] spec refs (codes "a") (inl refl);
+      }
+
+  fetches : (g : List Reading) (k : ℕ) → slice_get g k ≡ Some r → ¬ (IsExcluded g branch)
+      → Fetches g refs k (name branch) (Some tracking)
+  fetches g k at included = record {
+    maps = record { maps = maps g k at; source = branch_valid; destination = tracking_written };
+    included = included;
+  }
+
+one_included : (r : Reading) → IsPositive r.mode → ¬ (IsExcluded (r ∷ []) branch)
+one_included r positive (inl by) = subst IsPositive by.negative positive
+one_included r positive (inr none) = none
+
+no_destination : (k : ℕ) (r c : Reading) (x : List ℕ) → slice_get (or_head []) k ≡ Some r → IsCompleted r c
+    → ¬ (c.destination ≡ Some x)
+no_destination zero r c x at is has =
+    let same : r ≡ fetched_alone head = same_Some _ _ (sym at) in
+    let none = (rw same at is).destination in
+    cc (none, has)
+no_destination (suc k) r c x at is has = cc at
+
+-- without a value that fetches a branch, no other fetches it
+pub lost_with_its_value : FetchesAlone (every ∷ []) (or_head []) refs 0 (name branch) (Some tracking)
+lost_with_its_value = record {
+  one = record {
+    fetches = fetches every tt refl refl (every ∷ []) 0 refl (one_included every tt);
+    first = λ h below. absurd (omega (arith, below));
+  };
+  other = λ (k, f).
+      let m = f.maps.maps in
+      let made = destination_made refs (name branch) tracking m.completed m.makes in
+      no_destination k m.reading m.completed made.0 m.at m.is made.2;
+}
+
+-- so the lists don't fetch alike
+pub fetched_beyond : ¬ (FetchAlike (every ∷ []) (or_head []))
+fetched_beyond alike = alike.0 (record {
+  refs = refs;
+  valid = (branch_valid, tt);
+  source = name branch;
+  destination = Some tracking;
+  fetches = (0, lost_with_its_value.one.fetches);
+  other = lost_with_its_value.other;
+})
+
+-- a list fetches what it fetches
+pub fetch_itself : (g : List Reading) → FetchAlike g g
+fetch_itself g = ((λ b. b.other b.fetches), (λ b. b.other b.fetches))
+
+-- a value that is there in both lists loses nothing
+pub nothing_lost : (g : List Reading) (k : ℕ) (d : List ℕ) → ¬ (FetchesAlone g g refs k (name branch) (Some d))
+nothing_lost g k d alone = alone.other (k, alone.one.fetches)
+
+-- ---- missing sources
+
+-- a value of one branch
+abbrev named : Reading
+named = fetched Normal branch None
+
+branch_kind : HasKind branch (full_name branch)
+branch_kind = (refl, Lacks-tested star branch refl, record { after = codes "heads/a"; here = refl })
+
+named_lacks : LacksSource [] named
+named_lacks = record {
+  positive = tt;
+  source = branch;
+  is = refl;
+  named = inl branch_kind;
+  absent = λ ref word (k, below, is). absurd (omega (arith, below));
+}
+
+-- where there is no branch, only the value lacks one that names it; a pattern never does
+no_source : ¬ (LacksSome (every ∷ []) [])
+no_source (zero, r, below, is, lacks) = every_never [] (subst (LacksSource []) (sym is) lacks)
+no_source (suc k, r, below, is, lacks) = absurd (omega (arith, below))
+
+pub lacked_without_refs : LacksAlone (named ∷ []) (every ∷ []) 0
+lacked_without_refs = record {
+  refs = [];
+  valid = tt;
+  one = record {
+    lacks = record { reading = named; at = refl; lacks = named_lacks };
+    first = λ j below. absurd (omega (arith, below));
+  };
+  other = no_source;
+}
+
+-- so the lists don't fail alike
+pub lacked_beyond : ¬ (LackAlike (named ∷ []) (every ∷ []))
+lacked_beyond alike = alike.0 (record {
+  refs = [];
+  valid = tt;
+  lacks = (0, named, omega arith, refl, named_lacks);
+  other = no_source;
+})
+
+-- of two values that name it only the first lacks it alone
+pub second_unlacked : (h : List Reading) → ¬ (LacksAlone (named ∷ named ∷ []) h 1)
+second_unlacked h alone =
+    let second : alone.one.lacks.reading ≡ named = same_Some _ _ (sym alone.one.lacks.at) in
+    alone.one.first 0 (omega arith)
+    (record { reading = named; at = refl; lacks = subst (LacksSource alone.refs) second alone.one.lacks.lacks })
+
+-- and none where the other list lacks it too
+pub lack_itself : (g : List Reading) → LackAlike g g
+lack_itself g = ((λ b. b.other b.lacks), (λ b. b.other b.lacks))
+
+-- ---- what else the values do
+
+-- a ref that is named on the command line is updated though a negative value excludes it from other fetches
+pub excluded_updated : UpdatesPair (every ∷ fetched Negative branch None ∷ []) refs (name branch) tracking
+excluded_updated = (
+  0,
+  record {
+    maps = maps every tt refl refl (every ∷ fetched Negative branch None ∷ []) 0 refl;
+    source = branch_valid;
+    destination = tracking_written;
+  },
+)
+
+-- by no value without a destination
+pub nothing_updated : (d : List ℕ) → ¬ (UpdatesPair (or_head []) refs (name branch) d)
+nothing_updated d (k, u) =
+    let m = u.maps in
+    let made = destination_made refs (name branch) d m.completed m.makes in
+    no_destination k m.reading m.completed made.0 m.at m.is made.2
+
+-- a value with a destination makes tags followed
+pub tags_followed : ¬ (FollowAlike (fetched_alone head ∷ []) (fetched_alone head ∷ every ∷ []))
+tags_followed alike = none_followed (alike.1 (1, every, omega arith, refl, (tt, refl)))
+  where
+    none_followed : ¬ (FollowsTags (fetched_alone head ∷ []))
+    none_followed (zero, r, below, is, has) = false≢true (subst HasDestination (sym is) has).1
+    none_followed (suc k, r, below, is, has) = absurd (omega (arith, below))

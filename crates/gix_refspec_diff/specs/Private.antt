@@ -1,0 +1,2 @@
+-- The definitions that only private functions use, for their steps.
+pub mod Searches

@@ -1,0 +1,2 @@
+-- Rust values as plain data, for contracts.
+pub mod Difference
