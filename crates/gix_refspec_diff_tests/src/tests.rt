@@ -1,0 +1,4 @@
+//! What two lists of fetch values do otherwise.
+
+mod besides;
+mod pairs;
