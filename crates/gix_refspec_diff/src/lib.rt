@@ -78,7 +78,8 @@ pub struct PairExample {
 /// order; an empty one fetches `HEAD`.
 ///
 /// Destinations are completed as by `plan_fetch`, and mappings with an invalid side don't count, nor those of
-/// excluded sources. Fails if there is no byte that is free in both lists, or if memory runs out.
+/// excluded sources. Not looked at are signs, what a pruning fetch deletes, and which value `git pull` merges. Fails if
+/// there is no byte that is free in both lists, or if memory runs out.
 pub fn differences(
     alloc: Global,
     old: &[RefSpecRef<'_>],

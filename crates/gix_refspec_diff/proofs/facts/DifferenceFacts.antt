@@ -1,18 +1,22 @@
 -- What two lists of values do otherwise, on both sides of each border.
-use Rattle.gix_refspec_diff.proofs.Common.{CanBeWritten, Fetches, IsCompleted, IsPositive, IsRefName, List, Maps}
-use Rattle.gix_refspec_diff.proofs.Common.{Negative, None, Normal, Reading, Ref, Some, [], arith, false≢true, inl, inr}
-use Rattle.gix_refspec_diff.proofs.Common.{name, ref_named, refl, same_Some, slice_get, subst, sym, zero, ℕ, ◌∷◌, ◌≡◌}
+use Rattle.gix_refspec_diff.proofs.Common.{AreValid, CanBeWritten, Fetches, IsCompleted, IsPositive, IsRefName, List}
+use Rattle.gix_refspec_diff.proofs.Common.{Maps, Negative, None, Normal, Option, Reading, Ref, Some, Source, [], arith}
+use Rattle.gix_refspec_diff.proofs.Common.{false≢true, inl, inr, name, ref_named, refl, same_Some, slice_get, subst}
+use Rattle.gix_refspec_diff.proofs.Common.{sym, zero, ℕ, ◌∷◌, ◌≡◌}
 use Rattle.gix_refspec_lint.proofs.Common.{HasKind, HasSourcePattern, IsExcluded, Lacks-tested, codes, every, fetched}
 use Rattle.gix_refspec_lint.proofs.Common.{full_name, head, heads_split, origin_split, star, suc}
 use Rattle.gix_refspec_lint.proofs.facts.LintFacts.{every_never}
+use Rattle.gix_refspec_lint.proofs.lemmas.OneSpecLemmas.{makes_positive}
 use Rattle.gix_refspec_lint.proofs.lemmas.PatternLemmas.{spec_maps, two_patterns}
 use Rattle.gix_refspec_lint.proofs.lemmas.SourceLemmas.{destination_made}
 use Rattle.gix_refspec_text.proofs.lemmas.texts.TestedLemmas.{IsName-tested}
 use Rattle.gix_refspec_text.specs.Specs.Reading.{fetched_alone}
 use Rattle.gix_refspec_lint.specs.Matching.Removal.{FollowsTags, HasDestination}
 use Rattle.gix_refspec_match.specs.Matching.Missing.{LacksSource}
-use Rattle.gix_refspec_diff.specs.Matching.Difference.{FetchAlike, FetchesAlone, FollowAlike, LackAlike, LacksAlone}
-use Rattle.gix_refspec_diff.specs.Matching.Difference.{LacksSome, UpdatesPair, or_head}
+use Rattle.gix_refspec_diff.specs.Matching.Difference.{AreFetchedAlone, AreLackedAlone, FetchAlike, FetchesAlone}
+use Rattle.gix_refspec_diff.specs.Matching.Difference.{FetchesBeyond, FollowAlike, IsFetchedAlone, LackAlike}
+use Rattle.gix_refspec_diff.specs.Matching.Difference.{LacksAlone, LacksBeyond, LacksSome, PairExample, TrackAlike}
+use Rattle.gix_refspec_diff.specs.Matching.Difference.{UpdatesBeyond, UpdatesPair, or_head, refs_in}
 
 -- ---- no values
 
@@ -95,16 +99,65 @@ lost_with_its_value = record {
       no_destination k m.reading m.completed made.0 m.at m.is made.2;
 }
 
--- so the lists don't fetch alike
-pub fetched_beyond : ¬ (FetchAlike (every ∷ []) (or_head []))
-fetched_beyond alike = alike.0 (record {
+-- of two such values only the first one is named
+pub second_not_first : (h : List Reading)
+    → ¬ (FetchesAlone (every ∷ every ∷ []) h refs 1 (name branch) (Some tracking))
+second_not_first h alone =
+    alone.one.first 0 (omega arith) (maps every tt refl refl (every ∷ every ∷ []) 0 refl)
+
+-- an example of it
+abbrev example : PairExample
+example = record { spec = 0; source = name branch; destination = Some tracking; beside = [] }
+
+pub one_listed : AreFetchedAlone (every ∷ []) (or_head []) (example ∷ [])
+one_listed = (
+  Some example,
+  [],
+  record { spec = refl; valid = (branch_valid, tt); alone = lost_with_its_value },
+  refl,
+  refl,
+)
+
+pub at_its_index : (g h : List Reading) (k : ℕ) (e : PairExample) → IsFetchedAlone g h k e → e.spec ≡ k
+at_its_index g h k e is = is.spec
+
+pub on_a_remote : (g h : List Reading) (k : ℕ) (e : PairExample) → IsFetchedAlone g h k e → AreValid (refs_in e)
+on_a_remote g h k e is = is.valid
+
+-- whose remote has the source and the refs beside it
+pub source_and_others : (k : ℕ) (d : Option (List ℕ))
+    → refs_in (record { spec = k; source = name branch; destination = d; beside = tracking ∷ [] })
+    ≡ ref_named branch ∷ ref_named tracking ∷ []
+source_and_others k d = refl
+
+-- a negative value alone fetches nothing
+abbrev excluding : Reading
+excluding = fetched Negative branch None
+
+not_positive : (k : ℕ) (r : Reading) → slice_get (excluding ∷ []) k ≡ Some r → ¬ (IsPositive r.mode)
+not_positive zero r at positive = subst (λ (q : Reading). IsPositive q.mode) (same_Some _ _ (sym at)) positive
+not_positive (suc k) r at positive = cc at
+
+never_maps : (k : ℕ) (s : Source) (d : Option (List ℕ)) → ¬ (Maps (excluding ∷ []) refs k s d)
+never_maps k s d m =
+    not_positive k m.reading m.at (subst IsPositive m.is.mode (makes_positive refs s d m.completed m.makes))
+
+beyond : FetchesBeyond (every ∷ []) (excluding ∷ [])
+beyond = record {
   refs = refs;
   valid = (branch_valid, tt);
   source = name branch;
   destination = Some tracking;
   fetches = (0, lost_with_its_value.one.fetches);
-  other = lost_with_its_value.other;
-})
+  other = λ (k, f). never_maps k (name branch) (Some tracking) f.maps.maps;
+}
+
+-- so the lists don't fetch alike
+pub lost_beyond : ¬ (FetchAlike (every ∷ []) (excluding ∷ []))
+lost_beyond alike = alike.0 beyond
+
+pub gained_beyond : ¬ (FetchAlike (excluding ∷ []) (every ∷ []))
+gained_beyond alike = alike.1 beyond
 
 -- a list fetches what it fetches
 pub fetch_itself : (g : List Reading) → FetchAlike g g
@@ -148,14 +201,23 @@ lacked_without_refs = record {
   other = no_source;
 }
 
+pub lacking_listed : AreLackedAlone (named ∷ []) (every ∷ []) (0 ∷ [])
+lacking_listed = (Some 0, [], (refl, lacked_without_refs), refl, refl)
+
 -- so the lists don't fail alike
-pub lacked_beyond : ¬ (LackAlike (named ∷ []) (every ∷ []))
-lacked_beyond alike = alike.0 (record {
+missing_beyond : LacksBeyond (named ∷ []) (every ∷ [])
+missing_beyond = record {
   refs = [];
   valid = tt;
   lacks = (0, named, omega arith, refl, named_lacks);
   other = no_source;
-})
+}
+
+pub lacked_beyond : ¬ (LackAlike (named ∷ []) (every ∷ []))
+lacked_beyond alike = alike.0 missing_beyond
+
+pub lacked_by_the_other : ¬ (LackAlike (every ∷ []) (named ∷ []))
+lacked_by_the_other alike = alike.1 missing_beyond
 
 -- of two values that name it only the first lacks it alone
 pub second_unlacked : (h : List Reading) → ¬ (LacksAlone (named ∷ named ∷ []) h 1)
@@ -187,6 +249,23 @@ nothing_updated d (k, u) =
     let m = u.maps in
     let made = destination_made refs (name branch) d m.completed m.makes in
     no_destination k m.reading m.completed made.0 m.at m.is made.2
+
+-- so refs of the command line aren't stored alike with it and without
+stored_beyond : UpdatesBeyond (every ∷ []) (or_head [])
+stored_beyond = record {
+  refs = refs;
+  valid = (branch_valid, tt);
+  source = name branch;
+  destination = tracking;
+  updates = (0, lost_with_its_value.one.fetches.maps);
+  other = nothing_updated tracking;
+}
+
+pub stored_by_one : ¬ (TrackAlike (every ∷ []) (or_head []))
+stored_by_one alike = alike.0 stored_beyond
+
+pub stored_by_the_other : ¬ (TrackAlike (or_head []) (every ∷ []))
+stored_by_the_other alike = alike.1 stored_beyond
 
 -- a value with a destination makes tags followed
 pub tags_followed : ¬ (FollowAlike (fetched_alone head ∷ []) (fetched_alone head ∷ every ∷ []))

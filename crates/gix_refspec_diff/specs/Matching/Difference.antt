@@ -95,10 +95,11 @@ pub record LacksBeyond (g h : List Reading) : Type 0 where
   pub lacks : LacksSome g refs
   pub other : ¬ (LacksSome h refs)
 
--- neither list does so beyond the other: then a fetch of one does what a fetch of the other does
+-- over no such refs does one of both lists fetch a pair that the other doesn't
 abbrev pub FetchAlike : List Reading → List Reading → Type 0
 FetchAlike g h = ¬ (FetchesBeyond g h) × ¬ (FetchesBeyond h g)
 
+-- over none does one of them alone lack a source
 abbrev pub LackAlike : List Reading → List Reading → Type 0
 LackAlike g h = ¬ (LacksBeyond g h) × ¬ (LacksBeyond h g)
 
