@@ -194,7 +194,7 @@ test-dist: dist
 	@tests/packages/packages.sh $(DIST)
 
 clean:
-	rm -rf $(LOGS) crates/*/out
+	rm -rf $(LOGS) crates/*/out "$${XDG_CACHE_HOME:-$$HOME/.cache}/gix_refspec"
 
 kit:
 	@command -v rt >/dev/null \

@@ -3,7 +3,7 @@
 
 A processor is x86_64 or aarch64. rt builds for x86_64 alone, and would prove those libraries again that rt ci left, as it leaves
 them without the mark by which rt knows them. So the compiler is called here as rt calls it. It proves the crate; what it proved
-for one processor, or for rt check, it takes for the next. Makes out/NAME.o of a program and out/libNAME.a of a library, with
+for one processor, for rt check, or in an earlier run on this machine, it takes for the next. Makes out/NAME.o of a program and out/libNAME.a of a library, with
 .aarch64 before the last point for that processor.
 """
 import os
@@ -16,11 +16,15 @@ def build(crate, processor):
     name = f"lib{crate.name}" if crate.is_static else crate.name
     made = f"out/{name}{'' if processor == 'x86_64' else '.' + processor}.{'a' if crate.is_static else 'o'}"
     words = ["--target", f"{processor}-unknown-linux-gnu", "--toolchain", f"{kit.kit()}/toolchain", "--backend", "llvm", "-o", made]
+    kept = f"{crate.folder}/out/incremental"
     os.makedirs(f"{crate.folder}/out", exist_ok=True)
-    ran = crate.call("build", crate.folder, f"{crate.folder}/out/incremental", words)
+    if not os.path.isdir(kept):
+        kit.copied(kit.KEPT / crate.name, kept)
+    ran = crate.call("build", crate.folder, kept, words)
     print(ran.stdout, end="", flush=True)
     if ran.returncode:
         sys.exit(f"tools/build.py: {crate.name} isn't built for {processor}")
+    crate.leave(kept)
 
 
 def main():

@@ -99,7 +99,8 @@ class Copy:
         self.crate, self.room = crate, room
         for part in ("src", "specs", "proofs"):
             shutil.copytree(f"{crate.folder}/{part}", f"{room}/{part}")
-        os.mkdir(f"{room}/kept")
+        # what the edits left of the checker's work serves here too
+        kit.copied(kit.KEPT / crate.name, f"{room}/kept")
         paths = [f"{folder}/{it}" for part in ("specs", "proofs") for folder, _, names in os.walk(f"{room}/{part}") for it in names]
         self.files = {os.path.relpath(path, room): File(path) for path in paths if path.endswith(".antt")}
         # the checker reads the facts if the function that it is to prove cites them

@@ -9,15 +9,18 @@ A proof goes by what other functions promise, and not by their bodies, so many e
 function, and those of functions that call a changed one, or of which the checker says nothing, in a later round. An edit with
 `alone:` changes more than bodies. It has a round of its own, in which each error of the checker counts as one of `at:`.
 
-Without CRATE all are tried. NAME is what the names of edits begin with. The libraries below a crate are those that `make test`
-left proved; with --after, those that a run of it, with the log LOG, proves meanwhile.
+Without CRATE all are tried, several crates at a time, those with the longest proofs first. NAME is what the names of edits begin
+with. The libraries below a crate are those that `make test` left proved; with --after, those that a run of it, with the log LOG,
+proves meanwhile. The first round proves what the functions stand on, which takes as long as the rounds after it: the checker's
+work is kept for the next run on this machine.
 """
-import concurrent.futures
 import os
 import re
 import shutil
 import sys
 import tempfile
+import time
+from concurrent.futures import ThreadPoolExecutor
 
 sys.dont_write_bytecode = True
 import kit  # beside this script
@@ -67,7 +70,7 @@ def next_round(crate, edits):
     return chosen, texts
 
 
-def said_of(crate, texts, functions, kept):
+def said_of(crate, texts, functions, kept, jobs):
     """What the checker says of these functions, with these texts, and its errors."""
     with tempfile.TemporaryDirectory(prefix="edits-") as copy:
         for part in ("src", "specs", "proofs"):
@@ -76,7 +79,7 @@ def said_of(crate, texts, functions, kept):
         for file, text in texts.items():
             with open(f"{copy}/{file}", "w", encoding="utf-8") as changed:
                 changed.write(text)
-        text = crate.check(copy, kept, [word for name in functions for word in ("--only", name)])
+        text = crate.check(copy, kept, [word for name in functions for word in ("--only", name)], jobs)
     said = dict(re.findall(rf"^fn {crate.name}::(\S+): (.*)$", text, re.M))
     if not re.search(r"^only=\d+ proved=\d+", text, re.M) or not said.keys() & functions:
         raise kit.Failure(f"{crate.name}: {' '.join(functions - said.keys())}: the checker said:\n{text[-2000:]}")
@@ -96,13 +99,13 @@ def fault_of(edit, said, errors):
     return None
 
 
-def try_all(crate, edits):
-    """How many of the edits are refused. Prints a line for each other."""
+def try_all(crate, edits, jobs):
+    """How many of the edits are refused. Prints a line for each other. A round takes as many jobs as `jobs` says then."""
     left, rounds, missed = sorted(edits, key=lambda it: it.is_alone), 0, 0
-    with tempfile.TemporaryDirectory(prefix="edits-kept-") as kept:
+    with crate.work() as kept:
         while left:
             tried, texts = next_round(crate, left)
-            said, errors = said_of(crate, texts, {it.at for it in tried}, kept)
+            said, errors = said_of(crate, texts, {it.at for it in tried}, kept, jobs())
             decided = [it for it in tried if it.at in said and (it.is_alone or not BY_OTHERS.match(said[it.at]))]
             if not decided:
                 raise kit.Failure(f"{crate.name}: each calls a changed function: {' '.join(it.name for it in tried)}")
@@ -115,6 +118,44 @@ def try_all(crate, edits):
             rounds += 1
     print(f"edits: {crate.name}: {len(edits) - missed} of {len(edits)} refused, in {rounds} rounds", flush=True)
     return len(edits) - missed
+
+
+def refused_of(crate, paths, jobs):
+    """How many of the edits are refused; none, and a line that says why, where the crate's can't be tried."""
+    try:
+        return try_all(crate, [Edit(path) for path in paths], jobs)
+    except kit.Failure as failure:
+        print(f"edits: {failure}", flush=True)
+        return 0
+
+
+def in_turn(left, log, call):
+    """Calls `call` with each of the crates and the jobs that it may use, as soon as a run with this log, if there is one, has proved
+    what is below it, and yields what it returns: for several crates at a time, first for those with the longest proofs. While
+    that run proves, half of the processors are used, and then all but the one for the changed definitions."""
+    processors, running = os.cpu_count() or 1, []
+    left.sort(key=lambda it: it.size(), reverse=True)
+
+    def lanes():
+        return max(1, processors // 2 if log and not kit.has_ended(log) else processors - 1)
+
+    def jobs():
+        return max(1, lanes() // max(1, len(running)) if not left else 1)
+
+    with ThreadPoolExecutor(processors) as pool:
+        while left or running:
+            for crate in list(left):
+                try:
+                    if len(running) < lanes() and (not log or kit.are_proved(crate.below, log)):
+                        left.remove(crate)
+                        running.append(pool.submit(call, crate, jobs))
+                except kit.Failure as failure:
+                    left.remove(crate)
+                    print(f"edits: {failure}", flush=True)
+            time.sleep(1)
+            done = [it for it in running if it.done()]
+            running = [it for it in running if it not in done]
+            yield from (it.result() for it in done)
 
 
 def main():
@@ -131,18 +172,7 @@ def main():
     tried = sum(map(len, paths.values()))
     if not tried:
         parser.error("there is no such edit")
-
-    def refused_of(crate):
-        try:
-            if given.after:
-                kit.wait_for(crate.below, given.after)
-            return try_all(crate, [Edit(path) for path in paths[crate]])
-        except kit.Failure as failure:
-            print(f"edits: {failure}", flush=True)
-            return 0
-
-    with concurrent.futures.ThreadPoolExecutor(max(1, (os.cpu_count() or 1) // 2)) as pool:
-        refused = sum(pool.map(refused_of, filter(paths.get, crates)))
+    refused = sum(in_turn(list(filter(paths.get, crates)), given.after, lambda crate, jobs: refused_of(crate, paths[crate], jobs)))
     print(f"edits: {refused} of {tried} refused")
     sys.exit(refused != tried)
 

@@ -1,14 +1,20 @@
 """The files of the repository, the crates of crates.txt, calls of the checker over the libraries that `make test` left proved, its
 errors, and files of edits, for the tools beside this file."""
 import argparse
+import contextlib
 import functools
 import os
 import re
+import shutil
 import subprocess
+import tempfile
 import time
 from pathlib import Path
 
 ROOT = Path(__file__).resolve().parents[1]
+
+# What the checker kept of its work, by crate, for the next run on this machine. No verdict rests on it: it saves time alone.
+KEPT = Path(os.environ.get("XDG_CACHE_HOME") or Path.home() / ".cache", "gix_refspec", "checked")
 
 ERROR = re.compile(r"^(?:\./)?(\S+?):(\d+):\d+: error: (?:`([^`]*)`: )?(.*(?:\n  .*)?)$", re.M)
 # What an error says, without what it quotes: a name is gone, or a text can't be read; the checker met a limit of its own.
@@ -84,10 +90,33 @@ class Crate:
         names = sorted(it for it in os.listdir(f"{self.folder}/{folder}") if it.endswith(".edit"))
         return [f"{self.folder}/{folder}/{it}" for it in names if not starts or it.startswith(tuple(starts))]
 
-    def call(self, verb, copy, kept, words):
+    def size(self):
+        """How long its proofs are, in bytes."""
+        return sum(os.path.getsize(ROOT / path) for path in files(f"crates/{self.name}/proofs"))
+
+    @contextlib.contextmanager
+    def work(self):
+        """A folder for what the checker keeps of its work on copies of the crate. It begins with what the last run on this
+        machine left, and is left for the next one."""
+        KEPT.mkdir(parents=True, exist_ok=True)
+        with tempfile.TemporaryDirectory(prefix=f".{self.name}-", dir=KEPT) as room:
+            copied(KEPT / self.name, f"{room}/new")
+            yield f"{room}/new"
+            self.leave(f"{room}/new")
+
+    def leave(self, kept):
+        """Leaves what the checker kept of its work on the crate for the next run on this machine."""
+        KEPT.mkdir(parents=True, exist_ok=True)
+        with tempfile.TemporaryDirectory(prefix=f".{self.name}-", dir=KEPT) as room, contextlib.suppress(OSError):
+            copied(kept, f"{room}/new")
+            with contextlib.suppress(OSError):
+                os.rename(KEPT / self.name, f"{room}/old")
+            os.rename(f"{room}/new", KEPT / self.name)
+
+    def call(self, verb, copy, kept, words, jobs=1):
         """A call of the checker, `check` or `build`, on a copy of the crate. It keeps what it proved in the folder `kept`."""
         root = "src/main.rt" if os.path.exists(f"{copy}/src/main.rt") else "src/lib.rt"
-        call = [f"{kit()}/bin/rattle", verb, "--crate-name", self.name, root, "--links", f"{self.name}=", "--jobs", "1"]
+        call = [f"{kit()}/bin/rattle", verb, "--crate-name", self.name, root, "--links", f"{self.name}=", "--jobs", str(jobs)]
         call += ["--antt-project", f"{kit()}/rattle/logic/antt-project.json", "--logic-built", f"{kit()}/logic_built"]
         call += ["--incremental", kept, "-L", f"dependency={kit()}/rlibs"]
         call += ["--crate-type", "staticlib"] if self.is_static else []
@@ -99,9 +128,9 @@ class Crate:
         how = {"stdin": subprocess.DEVNULL, "stdout": subprocess.PIPE, "stderr": subprocess.STDOUT}
         return subprocess.run([*call, *words], cwd=copy, text=True, errors="replace", check=False, **how)
 
-    def check(self, copy, kept, words):
+    def check(self, copy, kept, words, jobs=1):
         """What the checker says of a copy of the crate."""
-        return self.call("check", copy, kept, words).stdout
+        return self.call("check", copy, kept, words, jobs).stdout
 
 
 def crates():
@@ -114,15 +143,37 @@ def crates():
     return found
 
 
+def copied(kept, to):
+    """Copies what the checker kept, if there is anything: by links where it makes such a file anew and changes none."""
+    def copy(one, other):
+        (os.link if one.endswith(".oantt") else shutil.copy2)(one, other)
+
+    try:
+        shutil.copytree(kept, to, copy_function=copy)
+    except (OSError, shutil.Error):
+        shutil.rmtree(to, ignore_errors=True)
+        os.mkdir(to)
+
+
+def has_ended(log):
+    """Whether a run of `make test` with this log has proved all that it does, or failed."""
+    return bool(re.search(r"^\d+ passed, |^rt: FAILED", Path(log).read_text(encoding="utf-8"), re.M))
+
+
+def are_proved(names, log):
+    """Whether a run of `make test` has proved these crates; a failure if it has ended without that."""
+    has_stopped = has_ended(log)
+    text = Path(log).read_text(encoding="utf-8")
+    if all(re.search(rf"^rt: {name} (proved|is kept)", text, re.M) for name in names):
+        return True
+    if has_stopped:
+        raise Failure(f"not all of {' '.join(names)} are proved")
+    return False
+
+
 def wait_for(names, log):
     """Waits until a run of `make test` has proved these crates."""
-    while True:
-        with open(log, encoding="utf-8") as lines:
-            text = lines.read()
-        if all(re.search(rf"^rt: {name} (proved|is kept)", text, re.M) for name in names):
-            return
-        if re.search(r"^\d+ passed, |^rt: FAILED", text, re.M):
-            raise Failure(f"not all of {' '.join(names)} are proved")
+    while not are_proved(names, log):
         time.sleep(2)
 
 
