@@ -11,3 +11,4 @@ pub mod SharedLemmas
 pub mod AlikeLemmas
 pub mod LackLemmas
 pub mod TrackedLemmas
+pub mod MergeLemmas

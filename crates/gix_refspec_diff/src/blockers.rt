@@ -42,7 +42,7 @@ pub(crate) fn blockers(
 }
 
 // Adds the candidates that the specs try before the source, if they are valid and aren't kept away.
-fn add_blockers(
+pub(crate) fn add_blockers(
     alloc: Global,
     names: &mut Vec<BString>,
     specs: &[RefSpecRef<'_>],

@@ -18,13 +18,14 @@ ghost use Rattle.gix_refspec_text.specs.Views.Spec.{reading_of};
 ghost use Rattle.gix_refspec_lint.specs.Matching.Lint.{IsFree};
 ghost use Rattle.gix_refspec_lint.specs.declared.Error.TheVariants as error;
 ghost use Rattle.gix_refspec_diff.specs.Matching.Difference.{AreFetchedAlone, AreLackedAlone, FetchAlike};
-ghost use Rattle.gix_refspec_diff.specs.Matching.Difference.{FollowAlike, LackAlike, TrackAlike};
+ghost use Rattle.gix_refspec_diff.specs.Matching.Difference.{FollowAlike, LackAlike, MergeAlike, TrackAlike};
 ghost use Rattle.gix_refspec_diff.specs.Matching.Difference.{or_head as or_head_of};
 ghost use Rattle.gix_refspec_diff.specs.Views.Difference.{pair_example_of};
 
 mod asked;
 mod blockers;
 mod lists;
+mod merged;
 mod missing;
 mod pairs;
 mod shared;
@@ -59,6 +60,8 @@ pub struct Difference {
     pub tracks: bool,
     /// Whether only one of both lists makes a fetch follow tags.
     pub follows_tags: bool,
+    /// Whether `git pull` merges some source by one of both lists alone, if no ref is named to merge.
+    pub merges: bool,
 }
 
 /// A source and a destination, with a remote that shows what is said of them.
@@ -78,8 +81,8 @@ pub struct PairExample {
 /// order; an empty one fetches `HEAD`.
 ///
 /// Destinations are completed as by `plan_fetch`, and mappings with an invalid side don't count, nor those of
-/// excluded sources. Not looked at are signs, what a pruning fetch deletes, and which value `git pull` merges. Fails if
-/// there is no byte that is free in both lists, or if memory runs out.
+/// excluded sources. Not looked at are signs, and what a pruning fetch deletes. Fails if there is no byte that is free
+/// in both lists, or if memory runs out.
 pub fn differences(
     alloc: Global,
     old: &[RefSpecRef<'_>],
@@ -108,6 +111,9 @@ pub fn differences(
     ensures tags { IfOk result (λ d. MatchBool d.follows_tags
         (¬ (FollowAlike (or_head_of (map reading_of old.now)) (or_head_of (map reading_of new.now))))
         (FollowAlike (or_head_of (map reading_of old.now)) (or_head_of (map reading_of new.now)))) }
+    ensures merges { IfOk result (λ d. MatchBool d.merges
+        (¬ (MergeAlike (or_head_of (map reading_of old.now)) (or_head_of (map reading_of new.now))))
+        (MergeAlike (or_head_of (map reading_of old.now)) (or_head_of (map reading_of new.now)))) }
 
     ensures refused { IfErr result (λ e. e ≡ error.NoFreeByte →
         (b : ℕ) → ¬ (IsFree (or_head_of (map reading_of old.now) ++ or_head_of (map reading_of new.now)) b)) }
@@ -116,7 +122,11 @@ pub fn differences(
     let new = or_head(alloc, new)?;
     let (old, new) = (old.as_slice(), new.as_slice());
     let letter = free_byte(joined_lists(alloc, old, new)?.as_slice())?;
-    let Pairs { lost, gained } = compared(alloc, old, new, letter)?;
+    let Pairs {
+        lost,
+        gained,
+        merges,
+    } = compared(alloc, old, new, letter)?;
     Ok(Difference {
         lost,
         gained,
@@ -124,5 +134,6 @@ pub fn differences(
         required: lacked_alone(alloc, new, old)?,
         tracks: do_track(alloc, old, new, letter)?,
         follows_tags: follow_tags(old) != follow_tags(new),
+        merges,
     })
 }

@@ -14,6 +14,7 @@ ghost use Rattle.gix_refspec_diff.specs.Views.Difference.{pair_example_of};
 
 use crate::PairExample;
 use crate::asked::joined_lists;
+use crate::merged::do_merge;
 use crate::pairs::fetched_alone;
 use bstr::BString;
 use gix_refspec_lint::group::Group;
@@ -37,11 +38,12 @@ pub(crate) struct Lists<'l, 's> {
     pub(crate) words: &'l [BString],
 }
 
-// The pairs that one list alone fetches.
+// The pairs that one list alone fetches, and whether `git pull` merges another source by it.
 #[derive(Drop)]
 pub(crate) struct Pairs {
     pub(crate) lost: Vec<PairExample>,
     pub(crate) gained: Vec<PairExample>,
+    pub(crate) merges: bool,
 }
 
 // The pairs in which two lists differ.
@@ -64,7 +66,12 @@ pub(crate) fn compared<'s>(
     let words = words_of(alloc, letter)?;
     let lost = alone(alloc, &old, &new, words.as_slice())?;
     let gained = alone(alloc, &new, &old, words.as_slice())?;
-    Ok(Pairs { lost, gained })
+    let merges = do_merge(alloc, &old, &new)?;
+    Ok(Pairs {
+        lost,
+        gained,
+        merges,
+    })
 }
 
 // What the one list alone fetches.

@@ -48,3 +48,13 @@ returns-clause-tags c =
     follow_alike _ _ _ _
     (rw (c.as_slice-old.ensures.value, c.in_ok-old.ensures) at c.follow_tags.ensures)
     (rw (c.as_slice-new.ensures.value, c.in_ok-new.ensures) at c.follow_tags-2.ensures)
+
+pub returns-clause-merges : goal.returns-clause-merges
+returns-clause-merges c =
+    let pairs = rw (
+      c.as_slice-old.ensures.value,
+      c.as_slice-new.ensures.value,
+      c.in_ok-old.ensures,
+      c.in_ok-new.ensures,
+    ) at c.in_ok-lost.ensures in
+    pairs.merges

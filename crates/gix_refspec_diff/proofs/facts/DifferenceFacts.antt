@@ -1,10 +1,11 @@
 -- What two lists of values do otherwise, on both sides of each border.
 use Rattle.gix_refspec_diff.proofs.Common.{AreValid, CanBeWritten, Fetches, IsCompleted, IsPositive, IsRefName, List}
-use Rattle.gix_refspec_diff.proofs.Common.{Maps, Negative, None, Normal, Option, Reading, Ref, Some, Source, [], arith}
-use Rattle.gix_refspec_diff.proofs.Common.{false≢true, inl, inr, name, ref_named, refl, same_Some, slice_get, subst}
-use Rattle.gix_refspec_diff.proofs.Common.{sym, zero, ℕ, ◌∷◌, ◌≡◌}
-use Rattle.gix_refspec_lint.proofs.Common.{HasKind, HasSourcePattern, IsExcluded, Lacks-tested, codes, every, fetched}
-use Rattle.gix_refspec_lint.proofs.Common.{full_name, head, heads_split, origin_split, star, suc}
+use Rattle.gix_refspec_diff.proofs.Common.{MakesForward, Maps, Negative, None, Normal, Option, Reading, Ref, Some}
+use Rattle.gix_refspec_diff.proofs.Common.{Source, [], ap, arith, false≢true, inl, inr, name, ref_named, refl}
+use Rattle.gix_refspec_diff.proofs.Common.{same_Some, slice_get, subst, sym, zero, ℕ, ◌∷◌, ◌≡◌}
+use Rattle.gix_refspec_lint.proofs.Common.{HasKind, HasSourcePattern, IsExcluded, IsSplit, Lacks-tested, codes, every}
+use Rattle.gix_refspec_lint.proofs.Common.{fetched, full_name, head, heads_split, lacks_no_pattern, named_some}
+use Rattle.gix_refspec_lint.proofs.Common.{origin_split, star, suc}
 use Rattle.gix_refspec_lint.proofs.facts.LintFacts.{every_never}
 use Rattle.gix_refspec_lint.proofs.lemmas.OneSpecLemmas.{makes_positive}
 use Rattle.gix_refspec_lint.proofs.lemmas.PatternLemmas.{spec_maps, two_patterns}
@@ -15,8 +16,9 @@ use Rattle.gix_refspec_lint.specs.Matching.Removal.{FollowsTags, HasDestination}
 use Rattle.gix_refspec_match.specs.Matching.Missing.{LacksSource}
 use Rattle.gix_refspec_diff.specs.Matching.Difference.{AreFetchedAlone, AreLackedAlone, FetchAlike, FetchesAlone}
 use Rattle.gix_refspec_diff.specs.Matching.Difference.{FetchesBeyond, FollowAlike, IsFetchedAlone, LackAlike}
-use Rattle.gix_refspec_diff.specs.Matching.Difference.{LacksAlone, LacksBeyond, LacksSome, PairExample, TrackAlike}
-use Rattle.gix_refspec_diff.specs.Matching.Difference.{UpdatesBeyond, UpdatesPair, or_head, refs_in}
+use Rattle.gix_refspec_diff.specs.Matching.Difference.{LacksAlone, LacksBeyond, LacksSome, MergeAlike, MergesBeyond}
+use Rattle.gix_refspec_diff.specs.Matching.Difference.{MergesSource, PairExample, TrackAlike, UpdatesBeyond}
+use Rattle.gix_refspec_diff.specs.Matching.Difference.{UpdatesPair, or_head, refs_in}
 
 -- ---- no values
 
@@ -274,3 +276,75 @@ tags_followed alike = none_followed (alike.1 (1, every, omega arith, refl, (tt, 
     none_followed : ¬ (FollowsTags (fetched_alone head ∷ []))
     none_followed (zero, r, below, is, has) = false≢true (subst HasDestination (sym is) has).1
     none_followed (suc k, r, below, is, has) = absurd (omega (arith, below))
+
+-- ---- what is merged
+
+branch_made : MakesForward refs (name branch) None named
+branch_made = record {
+  ends = record { near = branch; far = None };
+  has = record { positive = tt; near = refl; far = refl; no_object = λ bytes of. of.1 branch_kind.2 };
+  one = named_some _ refs branch (inl refl) (λ r at. record {
+    word = None;
+    name = at;
+    takes = record {
+      matches = record { kind = full_name branch; of = branch_kind; is = (refl, at) };
+      first = λ n of. absurd (of.2 branch_kind.2);
+    };
+    becomes = refl;
+  });
+}
+
+both_included : ¬ (IsExcluded (named ∷ every ∷ []) branch)
+both_included (inl by) = subst IsPositive by.negative tt
+both_included (inr (inl by)) = subst IsPositive by.negative tt
+both_included (inr (inr none)) = none
+
+-- the first value is, if it has no star
+pub first_merged : MergesSource (named ∷ every ∷ []) refs (name branch)
+first_merged = record {
+  reading = named;
+  at = refl;
+  plain = λ x is one. lacks_no_pattern branch one.0 one.1 branch_kind.1
+      (subst (IsSplit one.0 one.1) (sym (same_Some _ _ is)) one.2);
+  destination = None;
+  fetches = record {
+    maps = record {
+      maps = record {
+        reading = named;
+        at = refl;
+        completed = named;
+        is = record { operation = refl; mode = refl; source = refl; destination = refl };
+        makes = branch_made;
+      };
+      source = branch_valid;
+      destination = tt;
+    };
+    included = both_included;
+  };
+}
+
+pub star_not_merged : (rs : List Ref) (s : Source) → ¬ (MergesSource (every ∷ named ∷ []) rs s)
+star_not_merged rs s m = let same = same_Some _ _ m.at in m.plain (codes "refs/heads/*")
+    (ap (λ (r : Reading). r.source) (sym same)) (codes "refs/heads/", [], heads_split)
+
+-- so the order of values decides
+merged_beyond : MergesBeyond (named ∷ every ∷ []) (every ∷ named ∷ [])
+merged_beyond = (
+  name branch,
+  record {
+    refs = refs;
+    valid = (branch_valid, tt);
+    merges = first_merged;
+    other = star_not_merged refs (name branch);
+  },
+)
+
+pub merged_by_one : ¬ (MergeAlike (named ∷ every ∷ []) (every ∷ named ∷ []))
+merged_by_one alike = alike.0 merged_beyond
+
+pub merged_by_the_other : ¬ (MergeAlike (every ∷ named ∷ []) (named ∷ every ∷ []))
+merged_by_the_other alike = alike.1 merged_beyond
+
+-- a list merges what it merges
+pub merge_itself : (g : List Reading) → MergeAlike g g
+merge_itself g = ((λ (s, a). a.other a.merges), (λ (s, a). a.other a.merges))

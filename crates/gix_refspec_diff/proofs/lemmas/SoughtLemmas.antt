@@ -13,7 +13,7 @@ use Rattle.gix_refspec_diff.specs.Private.Searches.{IsLeft}
 
 -- ---- refs of the same names
 
-fetches_named : (g : List Reading) (A B : List Ref) (k : ℕ) (s : Source) (d : Option (List ℕ)) → HaveSameNames A B
+pub fetches_named : (g : List Reading) (A B : List Ref) (k : ℕ) (s : Source) (d : Option (List ℕ)) → HaveSameNames A B
     → Fetches g A k s d → Fetches g B k s d
 fetches_named g A B k s d same f =
     record {

@@ -1,8 +1,9 @@
 -- What two lists of fetch values of a remote do otherwise, whatever refs the remote has. By git-fetch(1) under
--- `<refspec>` and "configured remote-tracking branches".
-use Rattle.std.specs.Prelude.{◌≡◌, ◌↔◌, ◌<◌, ℕ, List, [], ◌∷◌, ◌++◌, map, Option, Some}
-use Rattle.std.specs.List.{Any}
+-- `<refspec>` and "configured remote-tracking branches", and git-pull(1) under "default behaviour".
+use Rattle.std.specs.Prelude.{◌≡◌, ◌↔◌, ◌<◌, ℕ, zero, List, [], ◌∷◌, ◌++◌, map, Option, Some}
+use Rattle.std.specs.List.{Any, slice_get}
 use Rattle.gix_refspec_text.specs.Texts.Bytes.{head}
+use Rattle.gix_refspec_text.specs.Texts.Name.{HasOneStar}
 use Rattle.gix_refspec_text.specs.Specs.Reading.{Reading, fetched_alone}
 use Rattle.gix_refspec_text.specs.Matching.Match.{Ref}
 use Rattle.gix_refspec_match.specs.Matching.Lists.{IsMadeFrom}
@@ -126,3 +127,25 @@ TrackAlike g h = ¬ (UpdatesBeyond g h) × ¬ (UpdatesBeyond h g)
 -- tags are followed alike
 abbrev pub FollowAlike : List Reading → List Reading → Type 0
 FollowAlike g h = FollowsTags g ↔ FollowsTags h
+
+-- over the refs the first value has no star, and fetches the source: `git pull` merges it, if none is named to merge
+pub record MergesSource (g : List Reading) (refs : List Ref) (s : Source) : Type 0 where
+  pub reading : Reading
+  pub at : slice_get g zero ≡ Some reading
+  pub plain : (x : List ℕ) → reading.source ≡ Some x → ¬ (HasOneStar x)
+  pub destination : Option (List ℕ)
+  pub fetches : Fetches g refs zero s destination
+
+-- over some refs with valid names it does so by g, and by h it doesn't
+pub record MergesAlone (g h : List Reading) (s : Source) : Type 0 where
+  pub refs : List Ref
+  pub valid : AreValid refs
+  pub merges : MergesSource g refs s
+  pub other : ¬ (MergesSource h refs s)
+
+abbrev pub MergesBeyond : List Reading → List Reading → Type 0
+MergesBeyond g h = (s : Source) × MergesAlone g h s
+
+-- the same is merged
+abbrev pub MergeAlike : List Reading → List Reading → Type 0
+MergeAlike g h = ¬ (MergesBeyond g h) × ¬ (MergesBeyond h g)

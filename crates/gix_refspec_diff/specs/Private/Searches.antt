@@ -1,6 +1,6 @@
 -- How remotes are looked for that show what one list alone does. Only private functions use these definitions.
-use Rattle.std.specs.Prelude.{◌≡◌, ◌⊎◌, ◌↔◌, ◌<◌, ℕ, Bool, List, [], ◌∷◌, ◌++◌, drop, map, option_map}
-use Rattle.std.specs.Prelude.{Option, None, Some}
+use Rattle.std.specs.Prelude.{◌≡◌, ◌⊎◌, ◌↔◌, ◌<◌, ℕ, zero, Bool, List, [], ◌∷◌, ◌++◌, drop, map, option_map}
+use Rattle.std.specs.Prelude.{Option, None, Some, MatchBool}
 use Rattle.std.specs.List.{AllByRecursion, Contains, slice_get}
 use Rattle.bstr.specs.Owned.{bstring_bytes}
 use Rattle.gix_refspec_diff.specs.declared.lists.{Lists.Lists, Pairs.Pairs}
@@ -23,7 +23,8 @@ use Rattle.gix_refspec_lint.specs.Private.Idles.{ArePreferred, HasPlainSource, H
 use Rattle.gix_refspec_lint.specs.Private.Lints.{AreApart, IsDeciding, IsGroupOf, IsLongerPrefix, IsLongerSuffix}
 use Rattle.gix_refspec_lint.specs.Private.Lints.{IsMost, words_with}
 use Rattle.gix_refspec_lint.specs.Private.Overlaps.{AreOverlaps}
-use Rattle.gix_refspec_diff.specs.Matching.Difference.{AreFetchedAlone, FetchPair, FetchesAlone, PairExample, refs_in}
+use Rattle.gix_refspec_diff.specs.Matching.Difference.{AreFetchedAlone, FetchPair, FetchesAlone, MergeAlike}
+use Rattle.gix_refspec_diff.specs.Matching.Difference.{PairExample, refs_in}
 use Rattle.gix_refspec_diff.specs.Views.Difference.{pair_example_of}
 
 -- ---- values that both lists have
@@ -172,10 +173,11 @@ abbrev pub NoneExcluded : List Reading → List Reading → ℕ → Lists → Li
 NoneExcluded g h k lists p t = AllByRecursion (NoneByExclusion g h k (words_in lists) p t)
     (map reading_of lists.exclusions.now)
 
--- the pairs that one of both lists fetches alone
+-- the pairs that one of both lists fetches alone, and whether another source is merged
 pub record ArePairsOf (g h : List Reading) (pairs : Pairs) : Type 0 where
   pub lost : AreFetchedAlone g h (map pair_example_of pairs.lost.items)
   pub gained : AreFetchedAlone h g (map pair_example_of pairs.gained.items)
+  pub merges : MatchBool pairs.merges (¬ (MergeAlike g h)) (MergeAlike g h)
 
 -- a pair as plain data
 abbrev pub source_of : Pair → Source
@@ -188,6 +190,12 @@ destination_of pair = option_map bstr_bytes pair.destination
 pub record IsValidPair (pair : Pair) : Type 0 where
   pub source : IsValidSource (source_of pair)
   pub destination : CanBeWritten (destination_of pair)
+
+-- ---- what is merged
+
+-- the first completed reading has no star in its source
+abbrev pub IsPlainFirst : List Reading → Type 0
+IsPlainFirst cs = (c : Reading) × (slice_get cs zero ≡ Some c) × HasPlainSource c
 
 -- ---- missing sources
 

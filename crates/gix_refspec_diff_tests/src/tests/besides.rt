@@ -50,3 +50,39 @@ fn says_whether_named_refs_are_stored_alike(rt: HostRuntime) -> Result<(), Fail>
     }
     Ok(())
 }
+
+// git-pull(1), "default behaviour"; Git marks the other lines of FETCH_HEAD `not-for-merge`.
+#[test]
+fn says_whether_another_source_is_merged(rt: HostRuntime) -> Result<(), Fail> {
+    const ROWS: &[(&str, &str, bool)] = &[
+        ("", "HEAD", false),
+        // Order alone decides.
+        (
+            "refs/heads/a refs/heads/b",
+            "refs/heads/b refs/heads/a",
+            true,
+        ),
+        (
+            "+refs/heads/*:refs/x/* HEAD",
+            "HEAD +refs/heads/*:refs/x/*",
+            true,
+        ),
+        // Where the merged ref is written doesn't matter.
+        ("refs/heads/a:refs/x/a", "+refs/heads/a:refs/y/a", false),
+        // A pattern merges nothing, nor does an excluded ref.
+        ("+refs/heads/*:refs/x/*", "^refs/heads/tmp/*", false),
+        (
+            "refs/heads/a ^refs/heads/a",
+            "refs/tags/b ^refs/tags/*",
+            false,
+        ),
+        // Where there are a tag and a branch, `a` is the tag.
+        ("a", "heads/a", true),
+        ("a ^refs/tags/a", "a", true),
+    ];
+    for (old, new, wanted) in ROWS {
+        let found = found(rt.alloc(), old, new)?;
+        assert_eq!(rt; found.merges, *wanted, "{old} and {new}");
+    }
+    Ok(())
+}
