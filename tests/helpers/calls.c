@@ -1,8 +1,8 @@
 /* Loaded before a program, this library tells of its reads of the standard input and its writes to the
    standard output: a letter for each, `r` or `w`, and `R` or `W` for one that it fails, to the descriptor in
    TELL. It fails the read or the write whose number, from 1, stands in CALLS_READ or CALLS_WRITE, and
-   only that one, as interrupted where CALLS_INTERRUPT is set. Where CALLS_MOST is, the others take at most
-   so many bytes. Where CALLS_ALL is set, it does so with the reads and writes of all files. A file whose path
+   only that one, as interrupted where CALLS_INTERRUPT is set; where CALLS_SHORT is, that one takes one byte and
+   doesn't fail. Where CALLS_MOST is, the others take at most so many bytes. Where CALLS_ALL is set, it does so with the reads and writes of all files. A file whose path
    ends with CALLS_OPEN can't be opened, for want of memory. */
 #define _GNU_SOURCE
 #include <dlfcn.h>
@@ -18,7 +18,7 @@ static ssize_t (*real_write)(int, const void *, size_t);
 static int (*real_open)(const char *, int, ...);
 static const char *unopened;
 static int tell = -1;
-static int all;
+static int all, is_short;
 static long failing_read, failing_write, most;
 static int error = EIO;
 static long reads, writes;
@@ -38,38 +38,38 @@ __attribute__((constructor)) static void start(void) {
     failing_write = number_in("CALLS_WRITE");
     most = number_in("CALLS_MOST");
     all = getenv("CALLS_ALL") != NULL;
+    is_short = getenv("CALLS_SHORT") != NULL;
     if (getenv("CALLS_INTERRUPT"))
         error = EINTR;
 }
 
-/* Tells of a call, and whether it fails. */
-static int fails(long number, long failing, const char *letters) {
-    if (real_write(tell, &letters[number == failing], 1) != 1)
+/* Tells of a call, and how many bytes it takes; of one that fails, more than there are. */
+static size_t taken(long number, long failing, const char *letters, size_t size) {
+    int is_meant = number == failing;
+    if (real_write(tell, &letters[is_meant], 1) != 1)
         _exit(99);
-    return number == failing;
-}
-
-/* How many bytes a call takes. */
-static size_t taken(size_t size) {
-    return most && size > (size_t)most ? (size_t)most : size;
+    if (is_meant && !is_short)
+        return size + 1;
+    long bound = is_meant ? 1 : most;
+    return bound && size > (size_t)bound ? (size_t)bound : size;
 }
 
 ssize_t read(int file, void *room, size_t size) {
-    int counts = all || file == STDIN_FILENO;
-    if (counts && fails(++reads, failing_read, "rR")) {
+    size_t count = all || file == STDIN_FILENO ? taken(++reads, failing_read, "rR", size) : size;
+    if (count > size) {
         errno = error;
         return -1;
     }
-    return real_read(file, room, counts ? taken(size) : size);
+    return real_read(file, room, count);
 }
 
 ssize_t write(int file, const void *bytes, size_t size) {
-    int counts = all || file == STDOUT_FILENO;
-    if (counts && fails(++writes, failing_write, "wW")) {
+    size_t count = all || file == STDOUT_FILENO ? taken(++writes, failing_write, "wW", size) : size;
+    if (count > size) {
         errno = error;
         return -1;
     }
-    return real_write(file, bytes, counts ? taken(size) : size);
+    return real_write(file, bytes, count);
 }
 
 /* Whether a path ends with the name of the file that can't be opened. */

@@ -2,8 +2,8 @@
 """Makes memory, reads and writes of the program refspec fail in each of its commands, and at each step of `git refspec`, and gives
 it a small stack: tests/refspec/faults.py PROGRAM
 
-Each growth of memory is refused in turn, alone and with all later ones; each read and each write fails in turn, is
-interrupted, and takes a byte at a time; each file in turn can't be opened for want of memory. A run answers as ever, or
+Each growth of memory is refused in turn, alone and with all later ones; each read and each write in turn fails, is
+interrupted, and takes one byte, and all of them take one byte; each file in turn can't be opened for want of memory. A run answers as ever, or
 writes nothing but what failed, and ends with status 3. On a stack of 64 kB, long texts and many refs are answered.
 """
 import collections
@@ -68,23 +68,32 @@ COMMANDS = [
 CALLS = [
     ["check", "-v"], ["plan", "--prune", "--json", "origin"], ["plan", "origin", "main", "nosuch"], ["stale", "origin"],
     ["track", "@{u}", "origin/main", "--json"], ["upstream"], ["upstream", "--json", "main", "HEAD"],
-    ["why", "main", "origin"], ["why", "--json", "nosuch"], ["prefixes", "--patterns"], ["plan", "--no"],
+    ["why", "main", "origin"], ["why", "--json", "nosuch"], ["why", "refs/remotes/origin/main"],
+    ["why", "--json", "refs/remotes/origin/gone"], ["prefixes", "--patterns"], ["plan", "--no"],
 ]
+JSON = ([], ["--json"])
 MANY = b"".join(b"%s\trefs/heads/%06d\n" % (ID, number) for number in range(20_000))
 LONG = b"a" * 500_000
 # On a small stack: a long text, many texts and many refs for each command.
 LARGE = [
-    *(Case(words, {}, text) for words in (["check", "--no-warnings"], ["explain"], ["canon"], ["prefixes"], ["prefetch"],
-                                          ["rename", "o", "p"], ["upstream", "--merge", "refs/heads/a"])
+    *(Case([*words, *json], {}, text) for json in JSON
+      for words in (["check", "--no-warnings"], ["explain"], ["canon"], ["prefixes"], ["prefetch"], ["rename", "o", "p"],
+                    ["upstream", "--merge", "refs/heads/a"])
       for text in (LONG, b"refs/" + LONG + b"/*:refs/x/*" + LONG, b"/".join([b"a"] * 100_000), b"+a:b\n" * 20_000, b"\n" * 20_000)),
     *(Case(["check", *words], {}, b"".join(b"refs/heads/%d*:refs/x/%d*\n" % (number, number % 20) for number in range(40)))
-      for words in ([], ["--json"])),
-    *(Case([*words, "refs/heads/*:refs/x/*", "refs/heads/000001:refs/x/000002", "^refs/heads/00001*"], {"local": MANY}, MANY)
-      for words in (["plan"], ["plan", "--json", "--local", "local"], ["stale", "--local", "local"],
-                    ["why", "--ref", "refs/heads/000001", "--refs", "-"], ["why", "--ref", "refs/heads/nosuch", "--refs", "-"])),
-    Case(["why", "--ref", "refs/heads/a", "--specs", "-"], {}, b"refs/heads/*:refs/x/*\n" * 20_000),
-    Case(["track", "--ref", "refs/x/a", "--specs", "-"], {}, b"refs/heads/*:refs/x/*\n" * 20_000),
-    Case(["check", "--config"], {}, b"".join(b"file:c\0remote.r%d.fetch\na:b\0" % number for number in range(5_000))),
+      for words in JSON),
+    *(Case([*words, *json, "refs/heads/*:refs/x/*", "refs/heads/000001:refs/x/000002", "^refs/heads/00001*"], {"local": MANY}, MANY)
+      for words in (["plan"], ["plan", "--local", "local"], ["stale", "--local", "local"],
+                    ["why", "--ref", "refs/heads/000001", "--refs", "-"], ["why", "--ref", "refs/heads/nosuch", "--refs", "-"],
+                    ["why", "--local", "refs/x/000002", "--refs", "-"], ["why", "--local", "refs/x/nosuch", "--refs", "-"])
+      for json in JSON),
+    *(Case([*words, *json, "--specs", "-"], {}, b"refs/heads/*:refs/x/*\n" * 20_000)
+      for words in (["why", "--ref", "refs/heads/a"], ["track", "--ref", "refs/x/a"]) for json in JSON),
+    *(Case(["why", "--local", "refs/x/a", *json, "--specs", "-"], {}, b"refs/heads/*:refs/x/*\n" * 500) for json in JSON),
+    *(Case(["prefixes", *words, *json], {}, b"".join(b"refs/heads/%d/*\n" % number for number in range(20_000)))
+      for words in (["--push"], ["--tags", "--head", "--merge", "dev", "--merge", "refs/heads/a"]) for json in JSON),
+    *(Case(["check", "--config", *json], {}, b"".join(b"file:c\0remote.r%d.fetch\na:b\0" % number for number in range(5_000)))
+      for json in JSON),
 ]
 LARGE_ANSWERS = {
     **scripted.USUAL, "lines": MANY, "local": MANY.replace(ID + b"\t", b"").replace(b"\n", b" \n"),
@@ -145,7 +154,7 @@ def refuse_growths(runner, library, whole):
 
 
 def fail_calls(runner, library, whole):
-    """Each read and each write fails in turn, is interrupted in turn, and takes one byte at a time."""
+    """Each read and each write in turn fails, is interrupted, and takes one byte; and all of them take one byte."""
     def run(**variables):
         return runner.run(lambda words, **options: programs.run_with(library, words, {"CALLS_ALL": "yes", **variables}, **options))
 
@@ -158,6 +167,7 @@ def fail_calls(runner, library, whole):
         answer, _ = run(CALLS_READ=str(number))
         runner.expect(answer, unread, f"read {number} fails")
         runner.expect(run(CALLS_READ=str(number), CALLS_INTERRUPT="yes")[0], [whole, answer], f"read {number} is interrupted")
+        runner.expect(run(CALLS_READ=str(number), CALLS_SHORT="yes")[0], [whole], f"read {number} takes one byte")
     for number in range(1, told.count(b"w") + 1):
         answer, _ = run(CALLS_WRITE=str(number))
         is_begun = whole.output.startswith(answer.output) and answer.status == 3 and answer.asked == b""
@@ -165,6 +175,7 @@ def fail_calls(runner, library, whole):
         if not is_begun or not is_said:
             fail(runner.case, f"write {number} fails", answer)
         runner.expect(run(CALLS_WRITE=str(number), CALLS_INTERRUPT="yes")[0], [whole, answer], f"write {number} is interrupted")
+        runner.expect(run(CALLS_WRITE=str(number), CALLS_SHORT="yes")[0], [whole], f"write {number} takes one byte")
     return len(told)
 
 
@@ -220,7 +231,8 @@ def steps(program, words, answers):
 def main():
     program = paths(__doc__, "program")
     cases = COMMANDS + [case for words in CALLS for case in steps(program, words, scripted.USUAL)]
-    large = LARGE + [case for words in CALLS for case in steps(program, words, LARGE_ANSWERS)]
+    calls = dict.fromkeys(tuple(word for word in words if word != "--json") for words in CALLS)
+    large = LARGE + [case for words in calls for json in JSON for case in steps(program, [*words, *json], LARGE_ANSWERS)]
     with programs.library("refuse") as refuse, programs.library("calls", "-ldl") as calls:
         with concurrent.futures.ThreadPoolExecutor(os.cpu_count()) as pool:
             counts = list(pool.map(lambda case: check(program, (refuse, calls), case), cases))
