@@ -29,7 +29,7 @@ of_program() {
 }
 
 of_refspec() {
-    for script in refspec replay git_refspec git_plans git_advice lint completions faults interrupted; do
+    for script in refspec replay git_refspec git_plans git_advice lint completions faults interrupted disks; do
         try "refspec/$script.py" "$refspec"
     done
     try ../tools/fuzz/calls.py "$refspec"
@@ -43,6 +43,7 @@ of_refspec() {
 of_library() {
     try bindings/bindings.sh
     try library/corpus.sh
+    try ../tools/fuzz/lint.py "$refspec" --groups 1000 --seed 1
     try library/versus.sh
     try bindings/drop-in.sh
     try library/conformance.sh "$program" "$refspec"

@@ -18,7 +18,8 @@ if [ -n "${STEP-}" ]; then
     fi
 fi
 """
-# Git prints the file of its answer, and ends with the status beside it, if there is one. It says nothing of a detached HEAD.
+# Git prints the file of its answer, and ends with the status beside it, if there is one, or with 128 if it can't print all. It says
+# nothing of a detached HEAD.
 GIT = STEPS + r"""
 case "$1 $2" in
     "rev-parse --git-common-dir") name=folder ;;
@@ -29,7 +30,7 @@ case "$1 $2" in
     for-each-ref*) [ $# -gt 2 ] && name=refs || name=local ;;
     help*) name=manual ;;
 esac
-cat "$room/$name"
+cat "$room/$name" || { [ "$?" -eq 141 ] && exit 141; exit 128; }
 if [ -e "$room/$name.status" ]; then
     status=$(cat "$room/$name.status")
     [ "$name $status" = "head 1" ] || echo "fatal: no $name" >&2
