@@ -77,8 +77,13 @@ def built(random_):
 
 
 def mutated(random_):
-    text = bytearray(random_.choice(REAL))
-    for _ in range(random_.randint(1, 3)):
+    return changed(random_, random_.choice(REAL))
+
+
+def changed(random_, text, most=3):
+    """A text with up to so many changes."""
+    text = bytearray(text)
+    for _ in range(random_.randint(1, most)):
         at = random_.randint(0, len(text))
         piece = random_.choice(PIECES) if random_.random() < 0.6 else junk(random_)[:1]
         change = random_.randrange(4)
