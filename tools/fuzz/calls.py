@@ -6,8 +6,8 @@
 Inputs are made of texts that look like refspecs, of names that they match, and of records that are broken now and then; Git's
 answers are broken, cut, or a failure. A run may end with a status from 0 to 3, with 141 if nobody reads its output, or with that
 of a failing Git; never by a signal. What it writes ends with an end of line, and what it says of a status other than 0 is there.
-Each JSON line is an object that docs/refspec.schema.json allows, and `git refspec` leaves no file behind. Otherwise the call is
-kept, and its number ends the run. One seed and number always give the same call.
+Each line of a call with `--json` is an object that docs/refspec.schema.json allows, and `git refspec` leaves no file behind.
+Otherwise the call is kept, and its number ends the run. One seed and number always give the same call.
 """
 import argparse
 import collections
@@ -287,7 +287,7 @@ class Runs:
         for text in () if is_git else (made.output, made.messages):
             expect(text == b"" or text.endswith((b"\n", b"\0") if is_raw else b"\n"), f"no end of line in {text[-60:]!r}")
         expect(made.status == 0 or made.messages or given.is_json and made.output, f"status {made.status} without a message")
-        if given.is_json and made.output.startswith(b"{"):
+        if given.is_json and not {"--help", "--version"} & set(given.words):
             for line in made.output.split(b"\n")[:-1]:
                 expect(self.objects.allow(line), f"no object of the schema: {line[:300]!r}")
                 self.counts["objects"] += 1
