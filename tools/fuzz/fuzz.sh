@@ -1,9 +1,9 @@
 #!/bin/bash
 # Looks for inputs at which a property of harness.c doesn't hold: tools/fuzz/fuzz.sh FOLDER [WORD..]
 # Builds the harness over out/lib/libgix_refspec.a in FOLDER with libFuzzer, begins with the stored corpus and the other samples,
-# and keeps what reaches new blocks in FOLDER/corpus. Each WORD goes to libFuzzer, as -runs=1000000 or -max_total_time=600. With
-# the word `minimise` it puts the fewest inputs that reach all these blocks into the sample, and prints the functions that they
-# don't reach.
+# keeps what reaches new blocks in FOLDER/corpus, and tells how many inputs it tried, and with which seed. Each WORD goes to libFuzzer,
+# as -runs=1000000, -max_total_time=600 or -seed=7. With the word `minimise` it puts the fewest inputs that reach all these blocks into
+# the sample, and prints the functions that they don't reach.
 set -eu -o pipefail
 here=$(cd "$(dirname "$0")" && pwd)
 folder=${1:?usage: tools/fuzz/fuzz.sh FOLDER [WORD..]}
@@ -29,4 +29,10 @@ if [ "${1:-}" = minimise ]; then
 fi
 "$here/corpus.py" unpack "$folder/corpus"
 "$here/corpus.py" seed "$folder/corpus"
-exec "$folder/harness" -dict="$here/refspec.dict" -max_len=4096 -artifact_prefix="$folder/" "$@" "$folder/corpus"
+status=0
+"$folder/harness" -dict="$here/refspec.dict" -max_len=4096 -artifact_prefix="$folder/" -print_final_stats=1 "$@" "$folder/corpus" 2>&1 \
+    | tee "$folder/fuzz.log" >&2 || status=$?
+tried=$(sed -n 's/^stat::number_of_executed_units: *//p' "$folder/fuzz.log")
+seed=$(sed -n 's/^INFO: Seed: //p' "$folder/fuzz.log")
+echo "fuzz: ${tried:-no count of} inputs tried, seed ${seed:-unknown}, status $status"
+exit "$status"
