@@ -45,7 +45,7 @@ class Remotes:
 
     def upstreams(self, values, merges, others=()):
         """The upstream of a branch for each merged ref, empty without one; `None` if git refuses a value. If such a ref is
-        there, git resolves `@{upstream}` to it. Another remote has other values."""
+        there, git resolves `@{upstream}` to it, and without one to nothing. Another remote has other values."""
         branches = [b"b%d" % number for number in range(len(merges))]
         config = remote_of(b"o", NOWHERE, values) + (remote_of(b"p", NOWHERE, others) if others else b"") + b"".join(
             section(b"branch", branch, (b"remote", b"o"), (b"merge", merge)) for branch, merge in zip(branches, merges))
@@ -58,11 +58,22 @@ class Remotes:
         found = made.stdout.split(b"\n")[:-1]
         refs = {one: branch for one, branch in zip(found, branches) if can_be_there(one)}
         client = self.client(config, {*names, *refs})
-        resolved = self.store.git(client, "rev-parse", "--symbolic-full-name", *[f"{branch.decode()}@{{upstream}}" for branch in refs.values()])
+        self.expect_resolved(client, refs.values(), list(refs), 0)
+        for branch in [branch for one, branch in zip(found, branches) if not one]:
+            self.expect_resolved(client, [branch], [], 128)
         shutil.rmtree(client)
-        if refs and resolved.stdout.split(b"\n")[:-1] != list(refs):
-            sys.exit(f"git rev-parse: {resolved}, and not {list(refs)}")
         return found
+
+    def expect_resolved(self, client, branches, wanted, status):
+        """Ends the run unless git resolves the upstreams of branches to these refs."""
+        words = [f"{branch.decode()}@{{upstream}}" for branch in branches]
+        if not words:
+            return
+        made = self.store.git(client, "rev-parse", "--symbolic-full-name", *words)
+        # What isn't resolved is printed as it is.
+        found = [one for one in made.stdout.splitlines() if one.decode() not in words]
+        if (found, made.returncode) != (wanted, status):
+            sys.exit(f"git rev-parse {words}: {made}, and not {wanted}")
 
     def renamed(self, values, old, new):
         """The values under the new name, and those that git warns to leave; `None` if git refuses."""
