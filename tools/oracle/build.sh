@@ -85,6 +85,7 @@ members="$members, \"crate_bench\""
 if [ -n "${GIX_REFSPEC_FOLDER:-}" ] && ! is_ours; then
     mkdir -p "$folder/versus/src"
     cp "$here"/versus/*.rs "$here/rows" "$folder/versus/src/"
+    sed -n 's/^\([A-Z]*\) = \("it .*"\)$/pub const \1: \&str = \2;/p' "$here/known.py" >"$folder/versus/src/kinds.rs"
     package versus 2021 "$(printf '%s\n' 'gix-refspec = { path = "../gix-refspec" }' "$hash" "$validate" "$bstr" "$sys")" \
         >"$folder/versus/Cargo.toml"
     members="$members, \"versus\""

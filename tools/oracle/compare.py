@@ -25,7 +25,6 @@ import specs
 
 # Groups are long where, with their answers, they have more bytes.
 LONG_GROUP = 450
-PLUS = "it prints a lone source that begins with + as it is"
 SAME = "both map every candidate of a partial source"
 UNPLANNED = "this plan is not made of what lhs maps"
 MADE = """\
@@ -72,8 +71,8 @@ def group_answer(program, command, text):
 
 
 def kind_of(operation, text, theirs, ours):
-    if operation == "fetch" and text.startswith(b"++") and theirs.startswith(b"ok +") and ours == b"ok +" + theirs[3:]:
-        return PLUS
+    if theirs.startswith(b"ok ") and ours.startswith(b"ok ") and known.is_plus(operation, text, theirs[3:], ours[3:]):
+        return known.PLUS
     words = [answer.decode("latin-1") if answer.startswith(b"err ") else "ok with a text" for answer in (theirs, ours)]
     return f"{operation}: the original has {words[0]}, this has {words[1]}"
 
@@ -180,7 +179,7 @@ def report(kinds):
     """Prints each kind, and gives the number of differences of unknown ones."""
     unknown = 0
     for kind, found in sorted(kinds.items()):
-        is_known = kind in (PLUS, *known.KINDS)
+        is_known = kind in (known.PLUS, *known.KINDS)
         unknown += 0 if is_known else len(found)
         _, text, their, our = min(found)
         print(f"compare: {len(found)} times {kind}{' (known)' * is_known}; the smallest {escaped(text)!r}:"
@@ -202,7 +201,7 @@ def compare_texts(options):
             for text, their, our in zip(batch, theirs, ours):
                 refused += their.startswith(b"err ")
                 kind = None if their == our else kind_of(operation, text, their, our)
-                if kind in (None, PLUS):
+                if kind in (None, known.PLUS):
                     answered.append((operation, text, our, (kind,) if kind else ()))
                 if kind:
                     kinds.setdefault(kind, []).append((len(text), text, their, our))

@@ -1,5 +1,5 @@
-"""What the original is known to answer otherwise to a group, told by the group itself, and what `plan` makes
-of mappings.
+"""What the original is known to answer otherwise to a text and to a group, told by these themselves, and what `plan` makes of
+mappings. `versus` has its kinds from here: build.sh takes each line `NAME = "it .."`.
 """
 import functools
 import re
@@ -7,15 +7,24 @@ import re
 import groups  # beside this script
 
 PANIC = (b"panic\n", 101)
+PLUS = "it prints a lone source that begins with + as it is"
 FILLED = "it panics where the ends of a pattern overlap in a name"
 EXCLUDED = "it excludes names in which the ends of a pattern overlap"
 HASHED = "it takes two mappings with one hash for a repeat"
 LATER = "it maps every candidate of a partial source, not the first alone"
+# Of a single positive spec without a destination, forward. Among `lhs` and `rhs` there is no push, and a fetch of that kind has no star;
+# so `versus` alone meets it.
+TAKEN = "it maps a name in which the ends of a one-sided push pattern overlap"
 KINDS = (FILLED, EXCLUDED, HASHED, LATER)
 # Source and destination of two mappings that have one hash there.
 TWINS = [[b"refs/heads/" + twin, b"refs/x/" + twin] for twin in groups.TWINS]
 # A spec without a match, which takes the place of another.
 IDLE = b"refs/idle"
+
+
+def is_plus(operation, text, theirs, ours):
+    """Whether the canonical texts of a text differ as PLUS says."""
+    return operation == "fetch" and text.startswith(b"++") and theirs.startswith(b"+") and ours == b"+" + theirs
 
 
 def sides(text):

@@ -151,6 +151,24 @@ pub fn matches(specs: &[Vec<u8>], names: &[Vec<u8>], direction: Direction) -> Re
     }
 }
 
+fn pair_of(mapping: &Mapping) -> sys::Pair {
+    sys::Pair {
+        source: text_of(&mapping.source),
+        destination: mapping.destination.as_ref().map_or(NO_TEXT, |name| text_of(name)),
+        source_is_id: mapping.item.is_none().into(),
+        has_destination: mapping.destination.is_some().into(),
+    }
+}
+
+/// The outcome of a validation, and the verdict on each mapping.
+pub fn validated(mappings: &[Mapping]) -> (u32, Vec<sys::PairVerdict>) {
+    let pairs: Vec<_> = mappings.iter().map(pair_of).collect();
+    let mut verdicts = vec![sys::PairVerdict::default(); pairs.len()];
+    let outcome =
+        unsafe { sys::gix_refspec_validate(pairs.as_ptr(), pairs.len(), verdicts.as_mut_ptr(), verdicts.len()) };
+    (outcome, verdicts)
+}
+
 /// The plan of a fetch of these specs: its outcome, each update with its verdict, and the specs whose source is missing.
 pub fn plan(specs: &[Vec<u8>], names: &[Vec<u8>]) -> (u32, Vec<(Mapping, u32)>, Vec<usize>) {
     let (texts, items) = (texts_of(specs), texts_of(names));

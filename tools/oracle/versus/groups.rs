@@ -1,5 +1,5 @@
-//! Compares what both libraries answer to a group: its mappings in both directions, and what a plan makes of them with what the
-//! validation does.
+//! Compares what both libraries answer to a group: its mappings in both directions, their validation, and what a plan makes of them
+//! with what the validation does.
 use crate::answers::{Direction, Mapping};
 use crate::inputs::Group;
 use crate::known::{self, Kinds};
@@ -21,8 +21,13 @@ pub fn compare(group: &Group) -> Result<Kinds, String> {
     let forward = archive::matches(&group.specs, &group.names, Direction::Forward)
         .map_err(|outcome| format!("match forward: outcome {outcome}"))?;
     let mut kinds = compared(group, &specs, Direction::Forward, &forward)?;
+    let matching = Matching::of(&specs, &group.names);
+    validated(&matching, &forward)?;
     match archive::matches(&group.specs, &group.names, Direction::Backward) {
-        Ok(backward) => kinds.extend(compared(group, &specs, Direction::Backward, &backward)?),
+        Ok(backward) => {
+            kinds.extend(compared(group, &specs, Direction::Backward, &backward)?);
+            validated(&matching, &[&forward[..], &backward].concat())?;
+        }
         Err(sys::NEEDS_IDS) if group.specs.iter().any(|text| known::needs_ids(text)) => {}
         Err(outcome) => return Err(format!("match backward: outcome {outcome}")),
     }
@@ -52,6 +57,36 @@ fn compared(
 ) -> Result<Kinds, String> {
     let theirs = Matching::of(specs, &group.names).mappings(direction);
     known::kinds(group, specs, direction, ours, theirs.as_deref())
+}
+
+/// The validation of mappings, which may be of both directions: the original's conflicts, each with its sources, or what it removes.
+fn validated(matching: &Matching<'_>, mappings: &[Mapping]) -> Result<(), String> {
+    let (outcome, verdicts) = archive::validated(mappings);
+    let with_verdict = |wanted| mappings.iter().zip(&verdicts).filter(move |(_, one)| one.verdict == wanted);
+    let mut rivals: BTreeMap<_, Vec<_>> = BTreeMap::new();
+    for (mapping, verdict) in with_verdict(sys::PAIR_IN_CONFLICT) {
+        let first = mappings.iter().position(|one| one.destination == mapping.destination);
+        differs("validation: the first", Some(verdict.first), first)?;
+        let found = rivals.entry(mapping.destination.clone().unwrap_or_default()).or_default();
+        let key = (mapping.item.is_none(), mapping.source.clone());
+        if !found.contains(&key) {
+            found.push(key);
+        }
+    }
+    let sources = |found: Vec<(bool, Vec<u8>)>| found.into_iter().map(|(_, source)| source).collect::<Vec<_>>();
+    let told: Vec<_> = rivals.into_iter().map(|(name, found)| (name, sources(found))).collect();
+    match matching.validated(mappings) {
+        Err(conflicts) => {
+            differs("validation: its outcome", outcome, sys::IN_CONFLICT)?;
+            differs("validation: conflicts", told, conflicts)
+        }
+        Ok(removed) => {
+            differs("validation: its outcome", outcome, sys::OK)?;
+            differs("validation: conflicts", told, Vec::new())?;
+            let told = with_verdict(sys::PAIR_REMOVED).filter_map(|(one, _)| one.destination.clone());
+            differs("validation: what is removed", told.collect(), removed)
+        }
+    }
 }
 
 /// A plan has what is mapped, with a verdict on each mapping: invalid sides by the original's check of names, conflicts by its

@@ -1,19 +1,13 @@
 //! In what the original is known to answer otherwise, by the kinds of `known.py`.
 use crate::answers::{Direction, Mapping};
 use crate::inputs::{Group, CANDIDATES, TWINS};
+pub use crate::kinds::*;
 use crate::original::{self, Matching};
 use gix_refspec::parse::Error;
 use gix_refspec::RefSpecRef;
 use gix_refspec_sys as sys;
 use std::collections::BTreeSet;
 
-pub const PLUS: &str = "it prints a lone source that begins with + as it is";
-pub const FILLED: &str = "it panics where the ends of a pattern overlap in a name";
-/// Of a push, which `known.py` has none of.
-pub const TAKEN: &str = "it maps a name in which the ends of a one-sided push pattern overlap";
-pub const EXCLUDED: &str = "it excludes names in which the ends of a pattern overlap";
-pub const HASHED: &str = "it takes two mappings with one hash for a repeat";
-pub const LATER: &str = "it maps every candidate of a partial source, not the first alone";
 /// A spec without a match, which takes the place of another.
 const IDLE: &[u8] = b"refs/idle";
 

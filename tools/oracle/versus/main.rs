@@ -5,13 +5,14 @@
 //!
 //! Of a text both operations are compared: check, where it is wrong, the canonical text, the parts, prefix and expansion, the order
 //! to another text, and what it makes of a name in both directions. Of a group the mappings in both directions, and what a plan
-//! makes of them with what the original's validation does. A difference that isn't of the kinds of `known.py` ends the run with
+//! makes of them and the validation of mappings with what the original's does. A difference that isn't of the kinds of `known.py` ends the run with
 //! status 1, and its input is shrunk to one that has no smaller one of such a difference.
 mod answers;
 mod archive;
 mod chance;
 mod groups;
 mod inputs;
+mod kinds; // made by build.sh
 mod known;
 mod original;
 mod texts;
