@@ -1,5 +1,5 @@
-/* Speaks the lines of refspec_map by the library for C: its commands canon, lhs and rhs. The library validates no mappings, and maps no
- * id back; then the status is 2, as for a command that isn't there.
+/* Speaks the lines of refspec_map by the library for C: its commands canon, lhs and rhs. It leaves out the validation of mappings, and
+ * destinations that are ids: gix_refspec_match has no ids to map back. Then the status is 2, as for a command that isn't there.
  *
  *     gcc -I crates/gix_refspec_c/include -o OUT conformance/drivers/c.c out/lib/libgix_refspec.a
  *     conformance/run OUT */

@@ -3,7 +3,7 @@
 
     GIX_REFSPEC_LIBRARY=out/lib/libgix_refspec.so PYTHONPATH=bindings/python conformance/run --json conformance/drivers/python.py
 
-It leaves out what the module has no call for: validation, upstreams, and destinations that are ids.
+It leaves out validation, which the lines of refspec_map and the Rust crate have, and destinations that are ids.
 """
 import os
 import sys
@@ -110,8 +110,14 @@ def prefixes(specs):
     return {"ask": "some", "prefixes": found}
 
 
+def upstreams(values, merge):
+    found = gix_refspec.upstream(values, merge).name
+    return {"upstream": [] if found is None else [found]}
+
+
 CALLS = {"validity": validity, "names": names, "canonical": canonical, "equality": equality, "forward": forward,
-         "backward": backward, "candidates": candidates, "plans": plans, "stale": stale, "prefixes": prefixes}
+         "backward": backward, "candidates": candidates, "plans": plans, "stale": stale, "prefixes": prefixes,
+         "upstreams": upstreams}
 
 
 def answer(kind, given):

@@ -1,7 +1,7 @@
 #!/usr/bin/env python3
 """Answers cases as lines of JSON by the program refspec: conformance/run --json conformance/drivers/refspec.py REFSPEC
 
-It answers canonical texts, plans, stale refs and prefixes; a single process of refspec_map answers the rest.
+It answers canonical texts, plans, stale refs, prefixes and upstreams; a single process of refspec_map answers the rest.
 """
 import collections
 import json
@@ -76,6 +76,10 @@ class Refspec:
         ask = "all" if found["all"] else "some" if listed else "nothing"
         return {"ask": ask, "prefixes": [] if found["all"] else listed}
 
+    def upstreams(self, values, merge):
+        found = self.objects("upstream", values, "--merge", merge)
+        return {"upstream": [one["name"] for one in found["upstream"]]}
+
 
 def unquoted(value):
     """The bytes of a text of the program, which are quoted as Git quotes paths if they aren't UTF-8."""
@@ -97,7 +101,8 @@ def main():
         sys.exit(__doc__)
     with tempfile.TemporaryDirectory() as folder:
         program = Refspec(os.path.abspath(sys.argv[1]), folder)
-        calls = {"canonical": program.canonical, "plans": program.plans, "stale": program.stale, "prefixes": program.prefixes}
+        calls = {"canonical": program.canonical, "plans": program.plans, "stale": program.stale, "prefixes": program.prefixes,
+                 "upstreams": program.upstreams}
         tables.serve(lambda kind, given: calls[kind](**given) if kind in calls else None)
 
 
