@@ -239,7 +239,7 @@ def main():
             list(pool.map(lambda case: check_stack(program, case), large))
     growths, failed, unopened = map(sum, zip(*counts))
     print(f"faults: {len(cases)} runs of refspec and steps of git refspec, with {growths} growths and {unopened} files refused and"
-          f" {failed} reads and writes failed and interrupted, each in turn; {len(large)} large ones on a stack of {STACK} bytes")
+          f" {failed} reads and writes failed, interrupted and shortened, each in turn; {len(large)} large ones on a stack of {STACK} bytes")
 
 
 if __name__ == "__main__":

@@ -162,7 +162,7 @@ class Fate(enum.IntEnum):
     DUPLICATE: an earlier spec, the first that does, maps the ref to the same destination.
     IN_CONFLICT: another source has the same destination, so nothing is fetched.
     DIRECTORY_CONFLICT: another source has a directory of the destination, or the other way round: Git writes one of both.
-    WRITTEN: it is fetched, and written to its destination if there is one.
+    WRITTEN: if the plan is carried out, it is fetched, and written to its destination if any.
     """
     UNMATCHED = _FATE_UNMATCHED
     EXCLUDES = _FATE_EXCLUDES

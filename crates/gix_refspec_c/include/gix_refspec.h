@@ -192,7 +192,7 @@ enum {
     GIX_REFSPEC_FATE_DUPLICATE = 6,           /* spec, the first that does, maps the ref to this destination too */
     GIX_REFSPEC_FATE_IN_CONFLICT = 7,         /* spec maps item to the same destination, so nothing is fetched */
     GIX_REFSPEC_FATE_DIRECTORY_CONFLICT = 8,  /* spec maps item to a directory of the destination, or the other way round */
-    GIX_REFSPEC_FATE_WRITTEN = 9              /* fetched, and written to its destination if there is one */
+    GIX_REFSPEC_FATE_WRITTEN = 9              /* if the outcome of the plan is OK, fetched, and written to its destination if any */
 };
 
 /* Why a source doesn't match a name. */
@@ -344,7 +344,7 @@ uint32_t gix_refspec_stale(const gix_refspec_text *texts, size_t texts_count, co
  * or not: an effect for each refspec, in order, as plan has it of configured ones. *item is set to the index of the name
  * among the names, or to NO_ITEM if the remote lacks it, and then the effects are those that the refspecs would have.
  * GIX_REFSPEC_TOO_SMALL if there are fewer effects than refspecs, or too few bytes for the destinations: *item and *len
- * are set as by match then too. */
+ * are set as by match then too. Only plan tells what stops a whole fetch, as a missing source does. */
 uint32_t gix_refspec_why(const gix_refspec_text *texts, size_t texts_count, const gix_refspec_text *names,
                          size_t names_count, const uint8_t *name, size_t name_len, gix_refspec_effect *effects,
                          size_t effects_count, uint8_t *buffer, size_t buffer_len, size_t *item, size_t *len);

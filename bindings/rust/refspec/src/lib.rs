@@ -1058,7 +1058,7 @@ pub enum Fate {
     InConflict(Rival),
     /// The destination of another mapping is a directory of the destination, or the other way round: Git writes one of both.
     DirectoryConflict(Rival),
-    /// It is fetched, and written to the destination if there is one.
+    /// If the plan is carried out, it is fetched, and written to the destination if any.
     Written,
 }
 
